@@ -1,0 +1,4 @@
+pub mod Limits
+pub mod Powers
+pub mod Refusals
+pub mod Streams
