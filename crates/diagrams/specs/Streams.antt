@@ -40,15 +40,14 @@ abbrev pub after : Stream → Stream
 after s = record { items = rest-of (s .items); ending = s .ending }
 
 -- some items, and then a stream
-abbrev pub _then_ : List Item → Stream → Stream
-xs then s = record { items = xs ++ s .items; ending = s .ending }
+abbrev pub _▸_ : List Item → Stream → Stream
+xs ▸ s = record { items = xs ++ s .items; ending = s .ending }
 
-infixr 60 _then_
-
+infixr 60 _▸_
 -- a stream of nothing but its end
 abbrev pub only : End → Stream
 only e = record { items = []; ending = e }
 
 -- what is left of a list of items once n of them are given, and then the end
 abbrev pub listed : List Item → ℕ → Stream
-listed xs n = drop n xs then only finish
+listed xs n = drop n xs ▸ only finish

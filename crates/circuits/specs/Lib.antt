@@ -1,0 +1,5 @@
+pub mod Tokens
+pub mod Lines
+pub mod Gates
+pub mod Circuits
+pub mod Sources
