@@ -1,5 +1,7 @@
 -- The number, the place and the layer of every refusal. Assumes nothing.
+use mathlib.Core.List.{List}
 use Prim.Native.Nat.{ℕ}
+use lib.Chars.{codes}
 use Rattle.diagrams.specs.declared.refusals.Layer.{Layer}
 use Rattle.diagrams.specs.declared.refusals.Layer.the-variants.{Reading, Loading, Asking, Writing}
 use Rattle.diagrams.specs.declared.refusals.Fault.{Fault}
@@ -94,3 +96,10 @@ write-place r = 0
 
 abbrev pub write-layer : WriteRefusal → Layer
 write-layer r = Writing
+
+-- the word for a layer
+abbrev pub layer-word : Layer → List ℕ
+layer-word Reading = codes "reading"
+layer-word Loading = codes "loading"
+layer-word Asking = codes "asking"
+layer-word Writing = codes "writing"

@@ -4,11 +4,14 @@ ghost use Prim.Native.Nat.{ℕ};
 ghost use Rattle.diagrams.specs.declared.refusals.Layer.{Layer};
 ghost use Rattle.diagrams.specs.Refusals.{fault-number, fault-place, fault-layer, load-number, load-place, load-layer};
 ghost use Rattle.diagrams.specs.Refusals.{ask-number, ask-place, ask-layer, write-number, write-place, write-layer};
+ghost use Rattle.diagrams.specs.Refusals.{layer-word};
+ghost use Rattle.std.specs.declared.option.Option.the-variants.{Some};
 use super::AskRefusal;
 use super::Fault;
 use super::Layer;
 use super::LoadRefusal;
 use super::WriteRefusal;
+use std::fmt;
 
 // The most bytes that a circuit text may have.
 pub const TEXT_LIMIT: usize = 65_536;
@@ -164,5 +167,18 @@ pub impl Reason for WriteRefusal as WriteReason {
 
     fn layer(&self) -> Layer {
         Layer::Writing
+    }
+}
+
+pub impl fmt::Display for Layer as LayerDisplay {
+    ghost shown = { λ layer. Some (layer-word layer) };
+
+    fn fmt<W: fmt::Write>(&self, f: &mut fmt::Formatter<W>) -> fmt::Result {
+        match *self {
+            Layer::Reading => f.write_str("reading"),
+            Layer::Loading => f.write_str("loading"),
+            Layer::Asking => f.write_str("asking"),
+            Layer::Writing => f.write_str("writing"),
+        }
     }
 }
