@@ -1,3 +1,5 @@
+pub mod Accepting
 pub mod Legs
 pub mod Moves
 pub mod Readings
+pub mod Spelling

@@ -21,8 +21,8 @@ use Rattle.circuits.specs.Lines.{onward, named, tested-at, qubit-at, other-at,
 use Rattle.circuits.specs.Circuits.{Script, line-then, lines, gates-from}
 
 -- where something is read, it ends past p
-record Past {X : Type 0} (end : X → ℕ) (p : ℕ) (r : Result X Fault) : Type 0 where
-  at : (x : X) → r ≡ Ok x → p < end x
+pub record Past {X : Type 0} (end : X → ℕ) (p : ℕ) (r : Result X Fault) : Type 0 where
+  pub at : (x : X) → r ≡ Ok x → p < end x
 
 past-ok : {X : Type 0} {end : X → ℕ} {p : ℕ} {x : X} → p < end x → Past end p (Ok x)
 past-ok {end = end} {p = p} {x = x} h = record { at = λ y e. let same : x ≡ y = cc in subst (λ z. p < end z) same h }
@@ -62,7 +62,7 @@ operands-past n bs p (TwoQubits g) =
     past-onward {r = other-at n (q .0) bs (q .1)} (past-weaker (le-of-lt h) (other-past n (q .0) bs (q .1))) (λ r k.
     past-onward {r = line-end bs (r .1)} (line-end-past bs p (r .1) k) (λ e l. past-ok l)))
 
-gate-past : (n : ℕ) (bs : List ℕ) (p : ℕ) → Past (λ r. r .1) p (gate-at n bs p)
+pub gate-past : (n : ℕ) (bs : List ℕ) (p : ℕ) → Past (λ r. r .1) p (gate-at n bs p)
 gate-past n bs p = go (named (getD bs p 0) p)
   where
     go : (r : Result Name Fault) → Past (λ x. x .1) p (onward r (operands-at n bs (p + 1)))

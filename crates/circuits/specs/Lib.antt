@@ -3,3 +3,4 @@ pub mod Lines
 pub mod Gates
 pub mod Circuits
 pub mod Sources
+pub mod Spelling

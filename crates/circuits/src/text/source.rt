@@ -1,13 +1,16 @@
 // How circuit text is read: the items of a line only when the line is whole.
 ghost use mathlib.Core.Bool.{true};
-ghost use mathlib.Core.List.{[], _∷_};
+ghost use mathlib.Core.List.{List, [], _∷_};
 ghost use mathlib.Core.Path.{_≡_};
-ghost use Prim.Native.Nat.{_+_, _*_, _^_, _≤_, _<_};
+ghost use Prim.Native.Nat.{ℕ, _+_, _*_, _^_, _≤_, _<_};
 ghost use lib.ListN.{length};
 ghost use denote.Ref.{now};
 ghost use Rattle.std.specs.Options.{isSome, Cases as BySome};
 ghost use Rattle.std.specs.shelf.Maps.{nth};
-ghost use Rattle.diagrams.specs.Streams.{_▸_};
+ghost use Rattle.diagrams.specs.Streams.{finish, _▸_};
+ghost use Rattle.circuits.specs.declared.gates.Gate.{Gate};
+ghost use Rattle.circuits.specs.Gates.{circuit-items};
+ghost use Rattle.circuits.specs.Spelling.{Spells, Spelling};
 ghost use Rattle.circuits.specs.Lines.{head-at};
 ghost use Rattle.circuits.specs.Circuits.{circuit, part-items, headed, scripted, gates-from};
 ghost use Rattle.circuits.specs.Sources.{still, Spent, Went};
@@ -22,8 +25,12 @@ use diagrams::refusals::methods::TEXT_LIMIT;
 use diagrams::source::Source;
 
 impl<'a> CircuitText<'a> {
+    // Every text has its meaning; one that spells a circuit gives its items and then the end, and
+    // no other text comes to the end.
     pub fn new(text: &'a [u8]) -> CircuitText<'a>
-        ensures { λ r. ⌜ still r ≡ circuit (now (text .entry)) ⌝ }
+        ensures rest { λ r. ⌜ still r ≡ circuit (now (text .entry)) ⌝ }
+        ensures spelled { λ r. ⌜ ((n : ℕ) (gs : List Gate) → Spells n gs (now (text .entry)) → still r ≡ circuit-items n gs finish) ⌝ }
+        ensures accepted { λ r. ⌜ (still r .ending ≡ finish → Spelling (now (text .entry))) ⌝ }
     {
         CircuitText {
             text,
