@@ -12,9 +12,9 @@ use Rattle.std.proofs.shelf.Lists.{drop-more, drop-all, getD-past}
 use Rattle.std.proofs.shelf.Ways.{tells, leb-tells}
 use Rattle.std.specs.declared.result.Result.{Result}
 use Rattle.std.specs.declared.result.Result.the-variants.{Ok, Err}
-use Rattle.diagrams.specs.Refusals.{text-limit}
-use Rattle.diagrams.specs.declared.refusals.Fault.{Fault}
-use Rattle.diagrams.specs.declared.refusals.Fault.the-variants.{TextTooLong}
+use Rattle.refusals.specs.Refusals.{text-limit}
+use Rattle.refusals.specs.declared.Fault.{Fault}
+use Rattle.refusals.specs.declared.Fault.the-variants.{TextTooLong}
 use Rattle.circuits.specs.Gates.{wired, fresh, played}
 use Rattle.circuits.specs.declared.wiring.Wiring.{Wiring}
 use Rattle.std.specs.Joined.{joined}

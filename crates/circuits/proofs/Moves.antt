@@ -11,7 +11,7 @@ use lib.ListN.{length, getD}
 use Rattle.std.proofs.shelf.Ways.{leb-tells, tells}
 use Rattle.std.specs.declared.result.Result.{Result}
 use Rattle.std.specs.declared.result.Result.the-variants.{Ok, Err}
-use Rattle.diagrams.specs.declared.refusals.Fault.{Fault}
+use Rattle.refusals.specs.declared.Fault.{Fault}
 use Rattle.diagrams.specs.Streams.{finish}
 use Rattle.circuits.specs.declared.gates.Gate.{Gate}
 use Rattle.circuits.specs.declared.lines.Name.{Name}

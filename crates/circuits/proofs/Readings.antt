@@ -10,12 +10,12 @@ use lib.ListN.{length, drop}
 use Rattle.std.proofs.shelf.Lists.{drop-all, nil-from-length}
 use Rattle.std.specs.shelf.Maps.{nth}
 use Rattle.std.specs.declared.option.Option.the-variants.{Some, None}
-use Rattle.diagrams.specs.Refusals.{text-limit}
+use Rattle.refusals.specs.Refusals.{text-limit}
 use Rattle.diagrams.specs.Streams.{Stream, only, finish, broken, _▸_}
 use Rattle.diagrams.specs.declared.items.Item.{Item}
 use Rattle.std.specs.declared.result.Result.the-variants.{Ok, Err}
-use Rattle.diagrams.specs.declared.refusals.Fault.{Fault}
-use Rattle.diagrams.specs.declared.refusals.Fault.the-variants.{TextTooLong}
+use Rattle.refusals.specs.declared.Fault.{Fault}
+use Rattle.refusals.specs.declared.Fault.the-variants.{TextTooLong}
 use Rattle.circuits.specs.declared.gates.Gate.{Gate}
 use Rattle.circuits.specs.declared.gates.Gate.the-variants.{One, Two}
 use Rattle.circuits.specs.declared.wiring.Wiring.{Wiring}

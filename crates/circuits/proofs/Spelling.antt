@@ -12,7 +12,7 @@ use Rattle.std.proofs.shelf.Ways.{tells}
 use Rattle.std.specs.Joined.{joined}
 use Rattle.std.specs.Vec.{Every}
 use Rattle.std.specs.declared.result.Result.the-variants.{Ok, Err}
-use Rattle.diagrams.specs.Refusals.{text-limit}
+use Rattle.refusals.specs.Refusals.{text-limit}
 use Rattle.diagrams.specs.Streams.{finish}
 use Rattle.circuits.specs.Gates.{circuit-items}
 use Rattle.circuits.specs.Tokens.{decimal, is-digit, digits-at, number-at, line-end}

@@ -6,11 +6,11 @@ use lib.Dec.{leb, ltb}
 use lib.ListN.{length, drop}
 use Rattle.std.specs.declared.result.Result.{Result}
 use Rattle.std.specs.declared.result.Result.the-variants.{Ok, Err}
-use Rattle.diagrams.specs.Refusals.{text-limit}
+use Rattle.refusals.specs.Refusals.{text-limit}
 use Rattle.diagrams.specs.Streams.{Stream, End, finish, broken, only, _▸_}
 use Rattle.diagrams.specs.declared.items.Item.{Item}
-use Rattle.diagrams.specs.declared.refusals.Fault.{Fault}
-use Rattle.diagrams.specs.declared.refusals.Fault.the-variants.{TextTooLong}
+use Rattle.refusals.specs.declared.Fault.{Fault}
+use Rattle.refusals.specs.declared.Fault.the-variants.{TextTooLong}
 use Rattle.circuits.specs.declared.gates.Gate.{Gate}
 use Rattle.circuits.specs.declared.wiring.Wiring.{Wiring}
 use Rattle.circuits.specs.declared.text.Part.{Part}

@@ -6,8 +6,8 @@ use lib.Dec.{eqb, leb, ltb}
 use lib.ListN.{length, getD}
 use Rattle.std.specs.declared.result.Result.{Result}
 use Rattle.std.specs.declared.result.Result.the-variants.{Ok, Err}
-use Rattle.diagrams.specs.declared.refusals.Fault.{Fault}
-use Rattle.diagrams.specs.declared.refusals.Fault.the-variants.{NotALetter, NoSuchQubit, EqualQubits}
+use Rattle.refusals.specs.declared.Fault.{Fault}
+use Rattle.refusals.specs.declared.Fault.the-variants.{NotALetter, NoSuchQubit, EqualQubits}
 use Rattle.circuits.specs.declared.gates.Single.the-variants.{Hadamard, S, SInverse, PauliX, PauliZ}
 use Rattle.circuits.specs.declared.gates.Double.the-variants.{ControlledX, ControlledZ}
 use Rattle.circuits.specs.declared.gates.Gate.{Gate}

@@ -4,7 +4,7 @@ use Prim.Native.Nat.{_≤_}
 use lib.ListN.{length}
 use Rattle.std.specs.declared.result.Result.{Result}
 use Rattle.std.specs.declared.result.Result.the-variants.{Ok, Err}
-use Rattle.diagrams.specs.declared.refusals.Fault.{Fault}
+use Rattle.refusals.specs.declared.Fault.{Fault}
 use Rattle.diagrams.specs.Streams.{Stream, finish, broken, only}
 use Rattle.circuits.specs.Circuits.{part-items, reading}
 use Rattle.circuits.specs.declared.text.CircuitText.{CircuitText}

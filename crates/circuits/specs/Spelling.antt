@@ -7,7 +7,7 @@ use lib.Dec.{ltb}
 use lib.ListN.{length}
 use Rattle.std.specs.Joined.{joined}
 use Rattle.std.specs.Vec.{Every}
-use Rattle.diagrams.specs.Refusals.{text-limit}
+use Rattle.refusals.specs.Refusals.{text-limit}
 use Rattle.circuits.specs.declared.gates.Single.{Single}
 use Rattle.circuits.specs.declared.gates.Single.the-variants.{Hadamard, S, SInverse, PauliX, PauliZ}
 use Rattle.circuits.specs.declared.gates.Double.{Double}

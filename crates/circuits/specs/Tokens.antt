@@ -6,8 +6,8 @@ use lib.Dec.{eqb, leb}
 use lib.ListN.{getD, take, drop}
 use Rattle.std.specs.declared.result.Result.{Result}
 use Rattle.std.specs.declared.result.Result.the-variants.{Ok, Err}
-use Rattle.diagrams.specs.declared.refusals.Fault.{Fault}
-use Rattle.diagrams.specs.declared.refusals.Fault.the-variants.{NotANumber, NoLineEnd}
+use Rattle.refusals.specs.declared.Fault.{Fault}
+use Rattle.refusals.specs.declared.Fault.the-variants.{NotANumber, NoLineEnd}
 use Rattle.circuits.specs.declared.tokens.Token.{Token}
 use Rattle.circuits.specs.declared.tokens.Token.the-variants.{Letter, Number}
 

@@ -14,7 +14,7 @@ use crate::tokens::Token;
 use crate::tokens::letter_token;
 use crate::tokens::line_end;
 use crate::tokens::number_token;
-use diagrams::refusals::Fault;
+use refusals::Fault;
 
 // What a letter names: a gate on one qubit or on two.
 #[derive(Clone, Copy)]

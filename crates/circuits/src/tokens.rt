@@ -7,9 +7,9 @@ ghost use lib.ListN.{length, getD};
 ghost use Rattle.std.specs.Results.{Cases};
 ghost use Rattle.std.specs.Vec.{made};
 ghost use Rattle.std.specs.declared.result.Result.the-variants.{Ok, Err};
-ghost use Rattle.diagrams.specs.declared.refusals.Fault.the-variants.{NotALetter};
+ghost use Rattle.refusals.specs.declared.Fault.the-variants.{NotALetter};
 ghost use Rattle.circuits.specs.Tokens.{text-of, place-of, decimal, is-digit, digits-at, number-at, line-end};
-use diagrams::refusals::Fault;
+use refusals::Fault;
 
 // A letter or a number: its bytes, and the place of the first of them in the text.
 #[derive(Clone, Copy)]

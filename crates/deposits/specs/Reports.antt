@@ -6,7 +6,7 @@ use lib.Chars.{codes}
 use lib.Dec.{ltb}
 use lib.ListN.{length}
 use Rattle.std.specs.Written.{decimal}
-use Rattle.diagrams.specs.Refusals.{fault-number, fault-place, fault-layer, layer-word}
+use Rattle.refusals.specs.Refusals.{fault-number, fault-place, fault-layer, layer-word}
 use Rattle.diagrams.specs.Streams.{End, finish, broken}
 use Rattle.diagrams.specs.declared.items.Item.{Item}
 use Rattle.circuits.specs.Circuits.{circuit}

@@ -7,10 +7,10 @@ use crate::tally::Tally;
 use crate::tally::tally_all;
 use circuits::text::CircuitText;
 use circuits::text::source::CircuitSource;
-use diagrams::refusals::Fault;
-use diagrams::refusals::methods::FaultReason;
-use diagrams::refusals::methods::LayerDisplay;
-use diagrams::refusals::methods::Reason;
+use refusals::Fault;
+use refusals::reason::FaultReason;
+use refusals::reason::LayerDisplay;
+use refusals::reason::Reason;
 use std::fmt;
 
 // The most bytes that the program takes.

@@ -6,8 +6,8 @@ ghost use Rattle.deposits.specs.Tallies.{counted, tally-of};
 use diagrams::items::Item;
 use diagrams::items::Side;
 use diagrams::items::SidePartialEq;
-use diagrams::refusals::Fault;
 use diagrams::source::Source;
+use refusals::Fault;
 
 // How many items of each sort there were, each count up to the largest number of its type. A
 // circuit has an input leg for each qubit.

@@ -1,4 +1,3 @@
 pub mod Limits
 pub mod Powers
-pub mod Refusals
 pub mod Streams

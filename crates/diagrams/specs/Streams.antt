@@ -7,7 +7,7 @@ use Rattle.std.specs.declared.option.Option.the-variants.{Some, None}
 use Rattle.std.specs.declared.result.Result.{Result}
 use Rattle.std.specs.declared.result.Result.the-variants.{Ok, Err}
 use Rattle.diagrams.specs.declared.items.Item.{Item}
-use Rattle.diagrams.specs.declared.refusals.Fault.{Fault}
+use Rattle.refusals.specs.declared.Fault.{Fault}
 
 -- how a source ends: well, or with a fault
 pub data End : Type 0 where

@@ -1,5 +1,4 @@
 // The vocabulary: what a diagram is made of, what gives it item by item, and why a call refuses.
 pub mod items;
 pub mod power;
-pub mod refusals;
 pub mod source;

@@ -3,7 +3,7 @@ ghost use mathlib.Core.Path.{_≡_};
 ghost use denote.Ref.{now};
 ghost use Rattle.diagrams.specs.Streams.{Stream, answer, after, listed};
 use crate::items::Item;
-use crate::refusals::Fault;
+use refusals::Fault;
 
 // A source means the items still to come, and after them an end or a fault. Asking takes off the
 // first item and leaves the rest; after the last it gives the end or the fault, every time.

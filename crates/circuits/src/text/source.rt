@@ -20,9 +20,9 @@ use crate::lines::first_line;
 use crate::lines::gate_line;
 use crate::wiring::Wiring;
 use diagrams::items::Item;
-use diagrams::refusals::Fault;
-use diagrams::refusals::methods::TEXT_LIMIT;
 use diagrams::source::Source;
+use refusals::Fault;
+use refusals::reason::TEXT_LIMIT;
 
 impl<'a> CircuitText<'a> {
     // Every text has its meaning; one that spells a circuit gives its items and then the end, and

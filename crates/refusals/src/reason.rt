@@ -1,10 +1,10 @@
 // What every refusal can tell: its number, its place and its layer.
 ghost use mathlib.Core.Path.{_≡_};
 ghost use Prim.Native.Nat.{ℕ};
-ghost use Rattle.diagrams.specs.declared.refusals.Layer.{Layer};
-ghost use Rattle.diagrams.specs.Refusals.{fault-number, fault-place, fault-layer, load-number, load-place, load-layer};
-ghost use Rattle.diagrams.specs.Refusals.{ask-number, ask-place, ask-layer, write-number, write-place, write-layer};
-ghost use Rattle.diagrams.specs.Refusals.{layer-word};
+ghost use Rattle.refusals.specs.declared.Layer.{Layer};
+ghost use Rattle.refusals.specs.Refusals.{fault-number, fault-place, fault-layer, load-number, load-place, load-layer};
+ghost use Rattle.refusals.specs.Refusals.{ask-number, ask-place, ask-layer, write-number, write-place, write-layer};
+ghost use Rattle.refusals.specs.Refusals.{layer-word};
 ghost use Rattle.std.specs.declared.option.Option.the-variants.{Some};
 use super::AskRefusal;
 use super::Fault;

@@ -2,16 +2,16 @@
 use mathlib.Core.List.{List}
 use Prim.Native.Nat.{ℕ}
 use lib.Chars.{codes}
-use Rattle.diagrams.specs.declared.refusals.Layer.{Layer}
-use Rattle.diagrams.specs.declared.refusals.Layer.the-variants.{Reading, Loading, Asking, Writing}
-use Rattle.diagrams.specs.declared.refusals.Fault.{Fault}
-use Rattle.diagrams.specs.declared.refusals.Fault.the-variants.{ByteMissing, ForbiddenBit, AbsentValue, OutOfRange, BytesFollow, NotALetter, NotANumber, NoSuchQubit, EqualQubits, NoLineEnd, TextTooLong}
-use Rattle.diagrams.specs.declared.refusals.LoadRefusal.{LoadRefusal}
-use Rattle.diagrams.specs.declared.refusals.LoadRefusal.the-variants.{Unreadable, UnknownSpider, TooManySpiders as TooManyToLoad, TooManyLegs, ScalarOutOfRange}
-use Rattle.diagrams.specs.declared.refusals.AskRefusal.{AskRefusal}
-use Rattle.diagrams.specs.declared.refusals.AskRefusal.the-variants.{NoFit, RowLength, RowByte, HoldSetting}
-use Rattle.diagrams.specs.declared.refusals.WriteRefusal.{WriteRefusal}
-use Rattle.diagrams.specs.declared.refusals.WriteRefusal.the-variants.{BufferShort, FactorOutOfRange, TooManySpiders as TooManyToWrite, WrongCount}
+use Rattle.refusals.specs.declared.Layer.{Layer}
+use Rattle.refusals.specs.declared.Layer.the-variants.{Reading, Loading, Asking, Writing}
+use Rattle.refusals.specs.declared.Fault.{Fault}
+use Rattle.refusals.specs.declared.Fault.the-variants.{ByteMissing, ForbiddenBit, AbsentValue, OutOfRange, BytesFollow, NotALetter, NotANumber, NoSuchQubit, EqualQubits, NoLineEnd, TextTooLong}
+use Rattle.refusals.specs.declared.LoadRefusal.{LoadRefusal}
+use Rattle.refusals.specs.declared.LoadRefusal.the-variants.{Unreadable, UnknownSpider, TooManySpiders as TooManyToLoad, TooManyLegs, ScalarOutOfRange}
+use Rattle.refusals.specs.declared.AskRefusal.{AskRefusal}
+use Rattle.refusals.specs.declared.AskRefusal.the-variants.{NoFit, RowLength, RowByte, HoldSetting}
+use Rattle.refusals.specs.declared.WriteRefusal.{WriteRefusal}
+use Rattle.refusals.specs.declared.WriteRefusal.the-variants.{BufferShort, FactorOutOfRange, TooManySpiders as TooManyToWrite, WrongCount}
 
 -- the most bytes that a circuit text may have
 abbrev pub text-limit : ℕ

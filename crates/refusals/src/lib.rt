@@ -1,5 +1,5 @@
-// Why a call refuses: four enums, one for each layer, with a number, a place and a layer for every case.
-pub mod methods;
+// Why a call refuses: an enum for each layer, and for every case a number, a place and a layer.
+pub mod reason;
 
 // The part of the archive that refused.
 #[derive(Clone, Copy, Debug, PartialEq, Eq)]
