@@ -82,11 +82,11 @@ module _ (n : ℕ) (bs : List ℕ) (p : ℕ) (w : Wiring) where
   pub at-end : length bs ≤ p → scripted n w (gates-from n bs p) ≡ closing n w ▸ only finish
   at-end h = ap (scripted n w) (gates-end n bs p h)
 
-  pub at-fault : p < length bs → (f : Fault) → gate-at n bs p ≡ Err f → scripted n w (gates-from n bs p) ≡ only (broken f)
-  at-fault h f e = ap (scripted n w) (gates-more n bs p h ∙ ap (λ r. line-then r (gates-from n bs)) e)
+  pub at-fault : p < length bs → (f : Fault) → Err f ≡ gate-at n bs p → scripted n w (gates-from n bs p) ≡ only (broken f)
+  at-fault h f e = ap (scripted n w) (gates-more n bs p h ∙ ap (λ r. line-then r (gates-from n bs)) (sym e))
 
-  pub at-gate : p < length bs → (g : Gate) (q : ℕ) → gate-at n bs p ≡ Ok (g, q) → scripted n w (gates-from n bs p) ≡ gate-items w g ▸ scripted n (wired w g) (gates-from n bs q)
-  at-gate h g q e = ap (scripted n w) (gates-more n bs p h ∙ ap (λ r. line-then r (gates-from n bs)) e)
+  pub at-gate : p < length bs → (g : Gate) (q : ℕ) → Ok (g, q) ≡ gate-at n bs p → scripted n w (gates-from n bs p) ≡ gate-items w g ▸ scripted n (wired w g) (gates-from n bs q)
+  at-gate h g q e = ap (scripted n w) (gates-more n bs p h ∙ ap (λ r. line-then r (gates-from n bs)) (sym e))
 
 -- a closing that gives nothing leaves the end
 pub closed : (n : ℕ) (w : Wiring) → length (closing n w) ≤ 0 → closing n w ▸ only finish ≡ only finish

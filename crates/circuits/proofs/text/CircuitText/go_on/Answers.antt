@@ -20,7 +20,7 @@ pub returns-in-Break-gate : need.returns-in-Break-gate
 returns-in-Break-gate c =
     let s = c .args .self .now in
     let p = err-from-errBy (c .from-residual .result) (c .from-residual .ensures .1) in
-    rw (p .1, p .2) (at-fault (s .qubits) (s .text .now) (s .at) (s .wiring) (c .if-self .left) _ (sym (c .in-Break-gate .ensures tt .value)), refl)
+    rw (p .1, p .2) (at-fault (s .qubits) (s .text .now) (s .at) (s .wiring) (c .if-self .left) _ (c .in-Break-gate .ensures tt .value), refl)
 
 pub returns : need.returns
 returns c =
@@ -29,7 +29,7 @@ returns c =
     let q = c .in-Continue-gate .end in (
       reading-is (s .text .now) q (s .qubits) (c .add .last .self) (Placed g (s .wiring)) 0 (c .pre)
           ∙ ap (λ w. gate-items (s .wiring) g ▸ scripted (s .qubits) w (gates-from (s .qubits) (s .text .now) q)) (c .add .ensures)
-          ∙ sym (at-gate (s .qubits) (s .text .now) (s .at) (s .wiring) (c .if-self .left) g q (sym (c .in-Continue-gate .ensures tt .value))),
+          ∙ sym (at-gate (s .qubits) (s .text .now) (s .at) (s .wiring) (c .if-self .left) g q (c .in-Continue-gate .ensures tt .value)),
       λ none. absurd (gate-some (s .wiring) g none),
       refl,
     )

@@ -1,0 +1,6 @@
+// Tests of the archive from outside, through its public calls alone.
+
+#[cfg(test)]
+mod circuit_items;
+#[cfg(test)]
+mod circuit_refusals;
