@@ -4,3 +4,7 @@
 mod circuit_items;
 #[cfg(test)]
 mod circuit_refusals;
+#[cfg(test)]
+mod program;
+#[cfg(test)]
+mod vocabulary;
