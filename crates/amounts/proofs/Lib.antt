@@ -1,0 +1,4 @@
+pub mod Integers
+pub mod Eighths
+pub mod Powers
+pub mod Scalars

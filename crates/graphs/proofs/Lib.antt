@@ -1,0 +1,9 @@
+pub mod Bitwise
+pub mod Complements
+pub mod Counting
+pub mod Drops
+pub mod Pivots
+pub mod Shifts
+pub mod Slots
+pub mod Sums
+pub mod Turns
