@@ -7,3 +7,5 @@ pub mod Shifts
 pub mod Slots
 pub mod Sums
 pub mod Turns
+pub mod Sorts
+pub mod Literal

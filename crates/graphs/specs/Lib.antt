@@ -1,3 +1,5 @@
 pub mod Counts
 pub mod Graphs
 pub mod Rules
+pub mod Sorts
+pub mod Literal
