@@ -1,7 +1,7 @@
 -- The scalars √2^a·w^m are told apart and are not zero, and to be the same amount is an equivalence. Assumes nothing.
 use mathlib.Core.Path.{_≡_, refl, sym, ap, ap₂, _∙_}
 use Prim.Native.Nat.{ℕ, zero, suc, _+_, _-_, _*_, _/_, _%_, _<_}
-use native.Mathlib.Nat.{add-comm}
+use native.Mathlib.Nat.{add-comm, mod-mod}
 use native.Mathlib.Omega.{arith}
 use lib.IntN.{ℤ, pos, negsuc, _+ℤ_, _-ℤ_, zero-*ℤ}
 use borrow.Author.Differences.{up, down, same-out}
@@ -11,6 +11,7 @@ use Rattle.amounts.specs.Scalars.{rooted, scalar, Root-two-is, Quarter-is, Roo
 use Rattle.amounts.proofs.Integers.{one-product, minus-one-product, sums}
 use Rattle.amounts.proofs.Eighths.{same, lawful}
 use Rattle.amounts.proofs.Powers.{one-mul, power-add, powers-cancel}
+use Rattle.amounts.proofs.Turns.{turned-same, whole-turn}
 
 pub root-two-is : Root-two-is
 unfolding power plus times unit eighth-turn
@@ -44,14 +45,10 @@ rooted-cancels (suc a) z y e =
     let r = root-two eighths in
     rooted-cancels a z y (root-cancels _ _ (sym (lawful .mul-assoc r (rooted a) z) ∙ e ∙ lawful .mul-assoc r (rooted a) y))
 
-eight : turned eighths 8 ≡ unit
-unfolding power times unit eighth-turn
-eight = refl
-
 -- w⁷ turns back
 turns-back : (m : ℕ) → times (turned eighths m) (power eighths (turned eighths 7) m) ≡ unit
 unfolding power
-turns-back = powers-cancel eighths lawful (eighths .w) (turned eighths 7) eight
+turns-back = powers-cancel eighths lawful (eighths .w) (turned eighths 7) (whole-turn eighths lawful)
 
 pub scalar-not-zero : Scalar-not-zero
 unfolding unit none
@@ -104,15 +101,8 @@ scalar-told a b m n h k e =
     (f, sym (place-turned m h) ∙ ap place g ∙ place-turned n k)
 
 -- whole turns change nothing
-turned-whole : (q m : ℕ) → turned eighths (m + 8 * q) ≡ turned eighths m
-turned-whole zero m = let e : m + 8 * zero ≡ m = omega arith in ap (turned eighths) e
-turned-whole (suc q) m =
-    let e : m + 8 * suc q ≡ (m + 8 * q) + 8 = omega arith in
-    let t = turned eighths (m + 8 * q) in
-    ap (turned eighths) e ∙ power-add eighths lawful (eighths .w) (m + 8 * q) 8 ∙ ap (times t) eight ∙ lawful .mul-one t ∙ turned-whole q m
-
 pub turned-rest : (m : ℕ) → turned eighths m ≡ turned eighths (m % 8)
-turned-rest m = let e : m ≡ m % 8 + 8 * (m / 8) = omega arith in ap (turned eighths) e ∙ turned-whole (m / 8) (m % 8)
+turned-rest m = turned-same eighths lawful m (m % 8) (sym (mod-mod m 8))
 
 scalar-rest : (a m : ℕ) → scalar a m ≡ scalar a (m % 8)
 scalar-rest a m = ap (times (rooted a)) (turned-rest m)

@@ -4,10 +4,10 @@ use mathlib.Core.Bool.{Bool, true, false, cond, _&&_}
 use mathlib.Core.List.{List, [], _∷_}
 use Prim.Native.Nat.{ℕ, _+_, _*_}
 use Rattle.amounts.specs.Amounts.{Amounts, Lawful, power, turned, quarter}
-use Rattle.amounts.proofs.Powers.{one-mul}
 use Rattle.graphs.specs.Graphs.{Bits, quarters}
 use Rattle.graphs.proofs.Literal.{quarter-power, if-set}
-use Rattle.graphs.proofs.Turns.{turned-none, quarters-add}
+use Rattle.amounts.proofs.Turns.{turned-none}
+use Rattle.graphs.proofs.Turns.{quarters-add}
 use Rattle.diagrams.specs.declared.items.Kind.{Kind}
 use Rattle.diagrams.specs.declared.items.Kind.the-variants.{Plain, Hadamard}
 use Rattle.diagrams.specs.declared.items.Item.{Item}

@@ -12,7 +12,8 @@ use Rattle.graphs.proofs.Bitwise.{beside}
 use Rattle.graphs.proofs.Counting.{total-nothing, pairs-nothing}
 use Rattle.graphs.proofs.Shifts.{Shifted, turns-shifted}
 use Rattle.graphs.proofs.Slots.{other-than, one-out}
-use Rattle.graphs.proofs.Turns.{turned-none, one-and-one}
+use Rattle.amounts.proofs.Turns.{turned-none}
+use Rattle.graphs.proofs.Turns.{one-and-one}
 
 module _ (n u : ℕ) (G H : Graph) (rule : Dropped n u G H) (x : Bits) (off : x u ≡ false) where
   beside-none : beside n G u x ≡ 0

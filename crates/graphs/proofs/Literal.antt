@@ -7,7 +7,8 @@ use Rattle.amounts.specs.Amounts.{Amounts, Lawful, power, turned, quarter}
 use Rattle.graphs.specs.Counts.{bit, total, pairs}
 use Rattle.graphs.specs.Graphs.{Graph, Bits, turns, quarters}
 use Rattle.graphs.specs.Literal.{product, pair-product, literal, Turns-are-literal}
-use Rattle.graphs.proofs.Turns.{turned-add, turned-none, quarters-add}
+use Rattle.amounts.proofs.Turns.{turned-add, turned-none}
+use Rattle.graphs.proofs.Turns.{quarters-add}
 
 module _ (A : Amounts) (laws : Lawful A) where
   -- i^p

@@ -14,7 +14,8 @@ use Rattle.graphs.proofs.Bitwise.{bit-xor, bit-and, bit-square, beside}
 use Rattle.graphs.proofs.Counting.{total-same, total-add, total-times, pairs-mod, counting}
 use Rattle.graphs.proofs.Shifts.{shift, Shifted, turns-shifted}
 use Rattle.graphs.proofs.Slots.{other-than, two-out}
-use Rattle.graphs.proofs.Turns.{parity, turned-add, turned-none, turned-round, turned-same, quarters-same, opposite, one-and-one, zero-plus, add-mul}
+use Rattle.amounts.proofs.Turns.{turned-add, turned-none, turned-round, turned-same, opposite, zero-plus, add-mul}
+use Rattle.graphs.proofs.Turns.{parity, quarters-same, one-and-one}
 
 -- of two products of bits one alone counts, but for an even number
 exclusive : (p q e a b c d i j : ℕ) → e + 2 * (a * b) ≡ a + b → a ≡ c * d → b ≡ i * j → (p * q * e) % 2 ≡ (p * c * (q * d) + p * i * (q * j)) % 2

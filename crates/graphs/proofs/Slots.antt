@@ -12,7 +12,8 @@ use Rattle.graphs.specs.Graphs.{Graph, Bits, Sound-graph, put, without, sum, t
 use Rattle.graphs.specs.Rules.{Blind}
 use Rattle.graphs.proofs.Bitwise.{beside, beside-put, turns-put}
 use Rattle.graphs.proofs.Sums.{Within, sum-same, sum-stands, sum-scale, sum-split}
-use Rattle.graphs.proofs.Turns.{add-mul, quarters-add, quarters-same}
+use Rattle.amounts.proofs.Turns.{add-mul}
+use Rattle.graphs.proofs.Turns.{quarters-add, quarters-same}
 
 -- what is set is not u, where u is not set
 pub other-than : (x : Bits) (u : ℕ) → x u ≡ false → (s : ℕ) → x s ≡ true → s ≡ u → ⊥

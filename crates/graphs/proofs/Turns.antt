@@ -1,10 +1,10 @@
--- Powers of the eighth turn in any lawful system: they go round after eight, and what a sum of two of them is. Assumes nothing.
+-- What sums of powers of the eighth turn are, in any lawful system. Assumes nothing.
 use mathlib.Core.Path.{_≡_, refl, sym, ap, ap₂, subst, _∙_}
+use mathlib.Core.Logic.{_⊎_, inl, inr, ⊎-elim}
 use Prim.Native.Nat.{ℕ, zero, suc, _+_, _*_, _-_, _/_, _%_, _<_, _≤_}
 use native.Mathlib.Omega.{arith}
-use Rattle.amounts.specs.Amounts.{Amounts, Lawful, power, turned, quarter, root-two}
-use mathlib.Core.Logic.{_⊎_, inl, inr, ⊎-elim}
-use Rattle.amounts.proofs.Powers.{power-add}
+use Rattle.amounts.specs.Amounts.{Amounts, Lawful, turned, root-two}
+use Rattle.amounts.proofs.Turns.{add-mul, turned-add, turned-none, opposite, whole-turn, turned-same}
 use Rattle.graphs.specs.Graphs.{quarters, odd-turn}
 use Rattle.graphs.proofs.Sums.{add-swap}
 
@@ -28,62 +28,21 @@ odd-square : (k j : ℕ) → k ≡ 2 * j + 1 → k * k ≡ 4 * (j * j) + 4 * j +
 odd-square k j e = rw e (omega arith)
 
 module _ (A : Amounts) (laws : Lawful A) where
-  pub zero-plus : (x : A .Amount) → A .add (A .zero) x ≡ x
-  zero-plus x = laws .add-comm (A .zero) x ∙ laws .add-zero x
-
-  pub add-mul : (x y z : A .Amount) → A .mul (A .add x y) z ≡ A .add (A .mul x z) (A .mul y z)
-  add-mul x y z = laws .mul-comm (A .add x y) z ∙ laws .mul-add z x y ∙ ap₂ (A .add) (laws .mul-comm z x) (laws .mul-comm z y)
-
-  pub turned-add : (m n : ℕ) → turned A (m + n) ≡ A .mul (turned A m) (turned A n)
-  turned-add m n = power-add A laws (A .w) m n
-
-  pub turned-none : turned A 0 ≡ A .one
-  unfolding power
-  turned-none = refl
-
-  -- half a turn further is the opposite
-  pub opposite : (n : ℕ) → A .add (turned A (n + 4)) (turned A n) ≡ A .zero
-  opposite n =
-      ap₂ (A .add) (turned-add n 4) (sym (laws .mul-one (turned A n)))
-      ∙ sym (laws .mul-add (turned A n) (turned A 4) (A .one))
-      ∙ ap (A .mul (turned A n)) (laws .half-turn)
-      ∙ laws .mul-zero (turned A n)
-
-  pub whole-turn : turned A 8 ≡ A .one
-  whole-turn =
-      sym (laws .add-zero (turned A 8))
-      ∙ ap (A .add (turned A 8)) (sym (laws .half-turn))
-      ∙ sym (laws .add-assoc (turned A 8) (turned A 4) (A .one))
-      ∙ ap (λ t. A .add t (A .one)) (opposite 4)
-      ∙ zero-plus (A .one)
-
-  pub turned-round : (m j : ℕ) → turned A (m + 8 * j) ≡ turned A m
-  turned-round m zero = ap (turned A) (omega arith)
-  turned-round m (suc j) =
-      let far : m + 8 * suc j ≡ m + 8 * j + 8 = omega arith in
-      ap (turned A) far ∙ turned-add (m + 8 * j) 8 ∙ ap (A .mul (turned A (m + 8 * j))) whole-turn ∙ laws .mul-one (turned A (m + 8 * j)) ∙ turned-round m j
-
-  pub turned-same : (m n : ℕ) → m % 8 ≡ n % 8 → turned A m ≡ turned A n
-  turned-same m n e =
-      let a : m ≡ m % 8 + 8 * (m / 8) = omega arith in
-      let b : n ≡ m % 8 + 8 * (n / 8) = omega arith in
-      ap (turned A) a ∙ turned-round (m % 8) (m / 8) ∙ sym (turned-round (m % 8) (n / 8)) ∙ sym (ap (turned A) b)
-
   pub quarters-same : (m n : ℕ) → m % 4 ≡ n % 4 → quarters A m ≡ quarters A n
-  quarters-same m n e = turned-same (2 * m) (2 * n) (omega arith)
+  quarters-same m n e = turned-same A laws (2 * m) (2 * n) (omega arith)
 
   pub quarters-add : (m n : ℕ) → quarters A (m + n) ≡ A .mul (quarters A m) (quarters A n)
-  quarters-add m n = let e : 2 * (m + n) ≡ 2 * m + 2 * n = omega arith in ap (turned A) e ∙ turned-add (2 * m) (2 * n)
+  quarters-add m n = let e : 2 * (m + n) ≡ 2 * m + 2 * n = omega arith in ap (turned A) e ∙ turned-add A laws (2 * m) (2 * n)
 
   -- √2·w^n
   root-turned : (n : ℕ) → A .mul (root-two A) (turned A n) ≡ A .add (turned A (1 + n)) (turned A (7 + n))
-  root-turned n = add-mul (turned A 1) (turned A 7) (turned A n) ∙ ap₂ (A .add) (sym (turned-add 1 n)) (sym (turned-add 7 n))
+  root-turned n = add-mul A laws (turned A 1) (turned A 7) (turned A n) ∙ ap₂ (A .add) (sym (turned-add A laws 1 n)) (sym (turned-add A laws 7 n))
 
   -- 1 + i = √2·w and 1 - i = √2·w⁷, and any power of w times these
   pub one-plus : (n : ℕ) → A .add (turned A n) (turned A (n + 2)) ≡ A .mul (root-two A) (turned A (n + 1))
   one-plus n =
       laws .add-comm (turned A n) (turned A (n + 2))
-      ∙ ap₂ (A .add) (turned-same (n + 2) (1 + (n + 1)) (omega arith)) (turned-same n (7 + (n + 1)) (omega arith))
+      ∙ ap₂ (A .add) (turned-same A laws (n + 2) (1 + (n + 1)) (omega arith)) (turned-same A laws n (7 + (n + 1)) (omega arith))
       ∙ sym (root-turned (n + 1))
 
   -- 1 + 1 = √2²
@@ -91,30 +50,30 @@ module _ (A : Amounts) (laws : Lawful A) where
   one-and-one =
       laws .mul-add (root-two A) (turned A 1) (turned A 7)
       ∙ ap₂ (A .add) (root-turned 1) (root-turned 7)
-      ∙ ap₂ (A .add) (laws .add-comm (turned A 2) (turned A 8) ∙ ap (λ t. A .add t (turned A 2)) whole-turn) (ap₂ (A .add) whole-turn (turned-same 14 6 refl))
+      ∙ ap₂ (A .add) (laws .add-comm (turned A 2) (turned A 8) ∙ ap (λ t. A .add t (turned A 2)) (whole-turn A laws)) (ap₂ (A .add) (whole-turn A laws) (turned-same A laws 14 6 refl))
       ∙ add-swap A laws (A .one) (turned A 2) (A .one) (turned A 6)
-      ∙ ap (A .add (A .add (A .one) (A .one))) (laws .add-comm (turned A 2) (turned A 6) ∙ opposite 2)
+      ∙ ap (A .add (A .add (A .one) (A .one))) (laws .add-comm (turned A 2) (turned A 6) ∙ opposite A laws 2)
       ∙ laws .add-zero (A .add (A .one) (A .one))
 
   -- 1 + i = √2·w, and 1 + i³ = √2·w⁷
   plus : (m : ℕ) → m % 8 ≡ 2 → A .add (A .one) (turned A m) ≡ A .mul (root-two A) (turned A 1)
-  plus m e = ap₂ (A .add) (sym turned-none) (turned-same m (0 + 2) e) ∙ one-plus 0
+  plus m e = ap₂ (A .add) (sym (turned-none A laws)) (turned-same A laws m (0 + 2) e) ∙ one-plus 0
 
   minus : (m : ℕ) → m % 8 ≡ 6 → A .add (A .one) (turned A m) ≡ A .mul (root-two A) (turned A 7)
-  minus m e = laws .add-comm (A .one) (turned A m) ∙ ap₂ (A .add) (turned-same m 6 e) (sym whole-turn) ∙ one-plus 6
+  minus m e = laws .add-comm (A .one) (turned A m) ∙ ap₂ (A .add) (turned-same A laws m 6 e) (sym (whole-turn A laws)) ∙ one-plus 6
 
   -- the same with c eighth turns apart
   apart : (c e : ℕ) (x : A .Amount) → x ≡ A .mul (root-two A) (turned A (c + 2 * e)) → x ≡ A .mul (A .mul (root-two A) (turned A c)) (quarters A e)
-  apart c e x h = h ∙ ap (A .mul (root-two A)) (turned-add c (2 * e)) ∙ sym (laws .mul-assoc (root-two A) (turned A c) (turned A (2 * e)))
+  apart c e x h = h ∙ ap (A .mul (root-two A)) (turned-add A laws c (2 * e)) ∙ sym (laws .mul-assoc (root-two A) (turned A c) (turned A (2 * e)))
 
   first-terms : (k e : ℕ) → e % 4 ≡ (3 * k + (k * k - k)) % 4 → A .add (A .one) (quarters A (1 + 2 * k)) ≡ A .mul (A .mul (root-two A) (turned A 1)) (quarters A e)
   first-terms k e same = apart 1 e _ (⊎-elim
-      (λ h. plus (2 * (1 + 2 * k)) (omega arith) ∙ ap (A .mul (root-two A)) (turned-same 1 (1 + 2 * e)
+      (λ h. plus (2 * (1 + 2 * k)) (omega arith) ∙ ap (A .mul (root-two A)) (turned-same A laws 1 (1 + 2 * e)
       (let s = even-square k (h .0) (h .1) in
       let l = square-le k in
       let z : 3 * k + (k * k - k) ≡ 4 * (h .0 + h .0 * h .0) = omega (arith, h .1) in
       omega (arith, same ∙ ap (λ t. t % 4) z))))
-      (λ h. minus (2 * (1 + 2 * k)) (omega arith) ∙ ap (A .mul (root-two A)) (turned-same 7 (1 + 2 * e)
+      (λ h. minus (2 * (1 + 2 * k)) (omega arith) ∙ ap (A .mul (root-two A)) (turned-same A laws 7 (1 + 2 * e)
       (let s = odd-square k (h .0) (h .1) in
       let z : 3 * k + (k * k - k) ≡ 4 * (h .0 * h .0 + 2 * h .0) + 3 = omega (arith, h .1) in
       omega (arith, same ∙ ap (λ t. t % 4) z))))
@@ -122,8 +81,8 @@ module _ (A : Amounts) (laws : Lawful A) where
 
   third-terms : (k e : ℕ) → e % 4 ≡ (k + (k * k - k)) % 4 → A .add (A .one) (quarters A (3 + 2 * k)) ≡ A .mul (A .mul (root-two A) (turned A 7)) (quarters A e)
   third-terms k e same = apart 7 e _ (⊎-elim
-      (λ h. minus (2 * (3 + 2 * k)) (omega arith) ∙ ap (A .mul (root-two A)) (turned-same 7 (7 + 2 * e) (let s = even-square k (h .0) (h .1) in let l = square-le k in omega arith)))
-      (λ h. plus (2 * (3 + 2 * k)) (omega arith) ∙ ap (A .mul (root-two A)) (turned-same 1 (7 + 2 * e) (let s = odd-square k (h .0) (h .1) in omega arith)))
+      (λ h. minus (2 * (3 + 2 * k)) (omega arith) ∙ ap (A .mul (root-two A)) (turned-same A laws 7 (7 + 2 * e) (let s = even-square k (h .0) (h .1) in let l = square-le k in omega arith)))
+      (λ h. plus (2 * (3 + 2 * k)) (omega arith) ∙ ap (A .mul (root-two A)) (turned-same A laws 1 (7 + 2 * e) (let s = odd-square k (h .0) (h .1) in omega arith)))
       (parity k))
 
   -- the two terms of a slot of odd phase p, of whose neighbours k are set: 1 + i^p·(-1)^k
