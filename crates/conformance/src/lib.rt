@@ -7,4 +7,6 @@ mod circuit_refusals;
 #[cfg(test)]
 mod program;
 #[cfg(test)]
+mod slots;
+#[cfg(test)]
 mod vocabulary;
