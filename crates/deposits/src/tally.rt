@@ -1,7 +1,7 @@
 // What a source gave, counted.
 ghost use mathlib.Core.Path.{_≡_};
 ghost use Rattle.std.specs.Results.{Cases};
-ghost use Rattle.diagrams.specs.Streams.{finish, broken};
+ghost use Rattle.diagrams.specs.Streams.{finish, broken, only};
 ghost use Rattle.deposits.specs.Tallies.{counted, tally-of};
 use diagrams::items::Item;
 use diagrams::items::Side;
@@ -41,7 +41,8 @@ impl Tally {
 
 // Asks the source up to its end, or up to its fault.
 pub fn tally_all<S: Source>(source: &mut S) -> Result<Tally, Fault>
-    ensures { λ r. ⌜ Cases r (λ t. (S·Source .rest (now (source .entry)) .ending ≡ finish) × (t ≡ tally-of (S·Source .rest (now (source .entry)) .items))) (λ f. S·Source .rest (now (source .entry)) .ending ≡ broken f) ⌝ }
+    ensures cases { λ r. ⌜ Cases r (λ t. (S·Source .rest (now (source .entry)) .ending ≡ finish) × (t ≡ tally-of (S·Source .rest (now (source .entry)) .items))) (λ f. S·Source .rest (now (source .entry)) .ending ≡ broken f) ⌝ }
+    ensures left { λ _. ⌜ S·Source .rest (now (source .exit)) ≡ only (S·Source .rest (now (source .entry)) .ending) ⌝ }
 {
     let mut tally = Tally {
         qubits: 0,
