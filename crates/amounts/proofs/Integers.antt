@@ -19,12 +19,12 @@ down_negative : (a : ℤ) → down (neg_ℤ a) ≡ up a
 down_negative a = (neg_is a).1
 
 pub product_assoc : (a b c : ℤ) → (a *ℤ b) *ℤ c ≡ a *ℤ (b *ℤ c)
-product_assoc a b c = same_in _ _ (simp (up_product, down_product, Nat.mul_add, Nat.add-mul, Nat.mul_assoc) (omega arith))
+product_assoc a b c = same_in _ _ (simp (up_product, down_product, Nat.mul-add, Nat.add-mul, Nat.mul_assoc) (omega arith))
 
 pub product-sum : (a b c : ℤ) → a *ℤ (b +ℤ c) ≡ a *ℤ b +ℤ a *ℤ c
 product-sum a b c =
-    let more = simp Nat.mul_add at (ap (λ n. up a * n) (sum_is_lem b c)) in
-    let less = simp Nat.mul_add at (ap (λ n. down a * n) (sum_is_lem b c)) in
+    let more = simp Nat.mul-add at (ap (λ n. up a * n) (sum_is_lem b c)) in
+    let less = simp Nat.mul-add at (ap (λ n. down a * n) (sum_is_lem b c)) in
     same_in _ _ (simp (up_product, down_product) (omega (arith, sum_is_lem (a *ℤ b) (a *ℤ c), product_is a b, product_is a c)))
 
 pub sum-product : (a b c : ℤ) → (a +ℤ b) *ℤ c ≡ a *ℤ c +ℤ b *ℤ c

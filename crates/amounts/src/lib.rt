@@ -1,5 +1,7 @@
 // Exact amounts: the mathematics of the eighth turn and the root of two.
 // Each function with an empty body stands for the theorem that its contract states.
+#![tactic(auto)]
+
 ghost use Rattle.std.specs.Prelude.{◌≡◌, T};
 ghost use Rattle.amounts.specs.Amounts.{turned, root_two, Lawful};
 ghost use Rattle.amounts.specs.Eighths.{times, eighths, number, coefficients};

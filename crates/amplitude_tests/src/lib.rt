@@ -1,4 +1,5 @@
 // Tests of loading, reduction and amplitudes from outside, against a sum that the tests make themselves.
+#![tactic(auto)]
 
 #[cfg(test)]
 mod against_sums;

@@ -1,5 +1,7 @@
 // What the amplitude of a list of items is: the definitions are in specs/, and each function here stands
 // for the theorem that its contract states.
+#![tactic(auto)]
+
 ghost use Rattle.amounts.specs.Amounts.{amounts_of};
 ghost use Rattle.amplitudes.specs.Exponents.{TermsArePowers};
 ghost use Rattle.amplitudes.specs.Worked.{WorkedAmounts};

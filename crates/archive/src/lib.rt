@@ -1,2 +1,4 @@
 // Questions for amplitudes.
+#![tactic(auto)]
+
 pub mod answer;

@@ -1,4 +1,6 @@
 // Circuits: gates and the items that they give, and circuit text as a source.
+#![tactic(auto)]
+
 pub mod gates;
 mod lines;
 pub mod text;

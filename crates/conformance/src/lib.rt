@@ -1,4 +1,5 @@
 // Tests of the archive from outside, through its public calls alone.
+#![tactic(auto)]
 
 #[cfg(test)]
 mod circuit_items;

@@ -1,5 +1,7 @@
 // Graphs and their sums: why the rewriting rules keep the amount, in every lawful system of amounts.
 // Each function stands for the theorems that its contract states.
+#![tactic(auto)]
+
 ghost use Rattle.amounts.specs.Amounts.{amounts_of};
 ghost use Rattle.amounts.specs.Eighths.{eighths};
 ghost use Rattle.graphs.specs.Rules.{ComplementSound, PivotSound, DropSound};

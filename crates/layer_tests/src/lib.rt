@@ -1,4 +1,5 @@
 // Tests of the layers from outside, through their public calls alone.
+#![tactic(auto)]
 
 #[cfg(test)]
 mod adjoints;

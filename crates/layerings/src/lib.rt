@@ -1,5 +1,7 @@
 // The laws of the layers: what they do to amplitudes, whatever the source below gives.
 // Each function with an empty body stands for the theorems that its contract states.
+#![tactic(auto)]
+
 ghost use Rattle.std.specs.Prelude.{◌≡◌, ℕ};
 ghost use Rattle.amounts.specs.Eighths.{number, coefficients};
 ghost use Rattle.amounts.specs.Scalars.{scalar};

@@ -1,4 +1,6 @@
 // Layers: sources over a source, which change its items as they pass.
+#![tactic(auto)]
+
 pub mod adjoint;
 pub mod hold;
 pub mod settings;

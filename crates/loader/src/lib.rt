@@ -1,3 +1,5 @@
 // Loading: a source's items become a working diagram, or a refusal.
+#![tactic(auto)]
+
 mod books;
 pub mod load;

@@ -1,5 +1,7 @@
 // Circuits are the matrices of their gates.
 // Each function stands for the theorem that its contract states.
+#![tactic(auto)]
+
 ghost use Rattle.matrices.specs.Matrices.{CircuitsAreMatrices, TextsAreMatrices, AcceptedTextsAreMatrices};
 
 // The items of a circuit of at most 16 qubits have the amplitude that its gates' matrices give, at every row

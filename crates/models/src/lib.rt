@@ -1,5 +1,7 @@
 // The working diagram as mathematics, and what each change of it keeps: the definitions are in specs/.
 // Each function stands for the theorems that its contract states.
+#![tactic(auto)]
+
 ghost use Rattle.models.specs.Laws.{EditsKeepSound};
 
 // A diagram of nothing is sound, and every edit of a sound diagram leaves a sound one; placing, removing, joining,

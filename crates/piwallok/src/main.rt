@@ -1,4 +1,6 @@
 // The program: reads a deposit from its standard input, and says on one line what it found.
+#![tactic(auto)]
+
 use deposits::report::{INPUT_LIMIT, examine};
 use std::io;
 use std::io::Read;

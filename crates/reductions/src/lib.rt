@@ -1,5 +1,7 @@
 // Reduction as mathematics: the three rules, runs of steps, and the answer to a row. The definitions are in
 // specs/, and each function here stands for the theorems that its contract states.
+#![tactic(auto)]
+
 ghost use Rattle.reductions.specs.Kept.{ThreeRulesKeep};
 ghost use Rattle.reductions.specs.Answers.{AnswersAreRight, AnswersAlike};
 

@@ -1,4 +1,6 @@
 // Why a call refuses: an enum for each layer, and for every case a number, a place and a layer.
+#![tactic(auto)]
+
 pub mod reason;
 
 // The part of the archive that refused.
