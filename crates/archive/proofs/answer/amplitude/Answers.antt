@@ -14,11 +14,11 @@ pub returns : goal.returns
 returns c =
     let m = model c.args.diagram.now in
     let row = c.args.row.now in
-    let scalar = c.scalar-scalar.ensures ∙ ap (λ (n : Model). n.scalar) (c.reduce-ran.ensures.after ∙ ap (λ (n : Model). (reduced 320 n).model) c.close-all.ensures) in
-    let steps = c.reduce-ran.ensures.steps ∙ ap (λ (n : Model). (reduced 320 n).steps) c.close-all.ensures in
+    let scalar = c.scalar-scalar.ensures ∙ ap (λ (n : Model). n.scalar) (c.reduce-ran.ensures.after ∙ ap (λ (n : Model). (reduced 320 n).model) c.close_all.ensures) in
+    let steps = c.reduce-ran.ensures.steps ∙ ap (λ (n : Model). (reduced 320 n).steps) c.close_all.ensures in
     let given : Answered = record { scalar = scale_of c.scalar-scalar.result; steps = c.reduce-ran.result.steps } in
     let same : answered (bits row) m ≡ given = (λ i. record { scalar = sym scalar i; steps = sym steps i }) in record {
-      value = not_refused row m (sym c.judge.ensures ∙ c.in-ok-judge.was) ∙ ap (λ (a : Answered). Ok a) same;
+      value = not_refused row m (sym c.judge.ensures ∙ c.in_ok-judge.was) ∙ ap (λ (a : Answered). Ok a) same;
       right = subst (λ (a : Answered). Right m (bits row) a) same (answers_are_right m (sound c.args.diagram.now) (bits row));
       after = c.new-2.ensures;
     }

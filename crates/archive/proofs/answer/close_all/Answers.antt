@@ -16,12 +16,12 @@ loop-number-preserved c =
     let low = c.loop-number-test.true in
     let less = c.loop-number.invariant.1 in
     let left : 64 - l ≡ suc (64 - (l + 1)) = omega arith in
-    let next = c.close-number-next.ensures.next low less in
+    let next = c.close_number-next.ensures.next low less in
     let most = bit_most (is_some (m.leg l)) in (
       c.loop-number.invariant.0
           ∙ ap (λ k. closed_from k l (drop n (bits row)) m) left
           ∙ closes_on (64 - (l + 1)) l n row m
-          ∙ (λ i. closed_from (64 - (l + 1)) (sym (add-one l) i) (drop (sym next i) (bits row)) (sym (c.close-number-next.ensures.after low) i)),
+          ∙ (λ i. closed_from (64 - (l + 1)) (sym (add-one l) i) (drop (sym next i) (bits row)) (sym (c.close_number-next.ensures.after low) i)),
       omega arith,
     )
 

@@ -26,10 +26,10 @@ loop-item-preserved g c =
     let t = loading_of c.take.new.self (model c.take.new.diagram) in
     let n = c.loop-item.number in
     let i = c.in-Some.item in
-    let gave = ap (λ a. numbered_by a n) (sym c.next.ensures.gives) ∙ sym c.numbered.ensures ∙ c.in-ok-item.was ∙ ap (λ o. Ok o) c.in-Some.is in
+    let gave = ap (λ a. numbered_by a n) (sym c.next.ensures.gives) ∙ sym c.numbered.ensures ∙ c.in_ok-item.was ∙ ap (λ o. Ok o) c.in-Some.is in
     let first = gave_first r n i gave in
-    let on = comes_on (taken s i) n c.take.result c.take.new.self (model c.take.new.diagram) c.take.ensures c.in-ok-take.was in (
-      (λ j. loaded_from t (c.saturating-add-number.ensures j) (c.next.ensures.leaves j).items (c.next.ensures.leaves j).ending)
+    let on = comes_on (taken s i) n c.take.result c.take.new.self (model c.take.new.diagram) c.take.ensures c.in_ok-take.was in (
+      (λ j. loaded_from t (c.saturating_add-number.ensures j) (c.next.ensures.leaves j).items (c.next.ensures.leaves j).ending)
           ∙ sym (loads_on s t n i (after r).items r.ending on.0)
           ∙ sym (ap (λ (is : List Item). loaded_from s n is r.ending) first)
           ∙ c.loop-item.invariant.0,
@@ -43,7 +43,7 @@ returns g c =
     let b = c.loop-item.books in
     let m = model c.loop-item.diagram in
     let n = c.loop-item.number in
-    let gave = ap (λ a. numbered_by a n) (sym c.next.ensures.gives) ∙ sym c.numbered.ensures ∙ c.in-ok-item.was ∙ ap (λ o. Ok o) c.in-default.is in
+    let gave = ap (λ a. numbered_by a n) (sym c.next.ensures.gives) ∙ sym c.numbered.ensures ∙ c.in_ok-item.was ∙ ap (λ o. Ok o) c.in_default.is in
     let none = gave_none r n gave in
     let whole = sym c.loop-item.invariant.0 ∙ (λ j. loaded_from (loading_of b m) n (none.0 j) (none.1 j)) in record {
       value = sym (ap answer_of whole);

@@ -10,4 +10,4 @@ pub returns : goal.returns
 returns c =
     let d = c.args.diagram.now in
     let u = c.args.slot.number in
-    empty_is_zero slots ((model d).graph.edge u) (has c.neighbours.result) c.is-empty.result (λ k e. (sound d).inside k (other_end (model d) u k (sound d) e)) c.neighbours.ensures c.is-empty.ensures
+    empty_is_zero slots ((model d).graph.edge u) (has c.neighbours.result) c.is_empty.result (λ k e. (sound d).inside k (other_end (model d) u k (sound d) e)) c.neighbours.ensures c.is_empty.ensures

@@ -25,4 +25,4 @@ returns-else-quarters-eq0 c =
     let m = model d in
     let u = c.args.slot.number in
     let gone : model c.remove.new.self ≡ removed u m = did c.remove.result _ _ _ (c.remove.ensures.done ∙ drop_removes m u (sound d) c.requires) c.remove.ensures.after in
-    c.make-zero.ensures ∙ ap zeroed gone ∙ drop_zeroes m u (sound d) c.requires (λ e. c.if-quarters-eq0.false (c.quarters.ensures ∙ c.phase-phase.ensures ∙ e))
+    c.make_zero.ensures ∙ ap zeroed gone ∙ drop_zeroes m u (sound d) c.requires (λ e. c.if-quarters-eq0.false (c.quarters.ensures ∙ c.phase-phase.ensures ∙ e))

@@ -6,13 +6,13 @@ use Rattle.replies.proofs.question.ask.Goals as goal
 
 pub returns : goal.returns
 returns c =
-    let r = c.row-bytes-row.result in
+    let r = c.row_bytes-row.result in
     let line = c.args.line.now in
     let m = model c.args.diagram.now in
     let n = c.min-length.result in
     let cut = c.min-length.ensures in
     let long : length r ≡ 65 = search rules in
-    let each : (k : ℕ) → k < n → get_or r k 0 ≡ row_byte (get_or line k 0) = λ k h. c.row-bytes-row.ensures (omega arith) (omega arith) k h in record {
+    let each : (k : ℕ) → k < n → get_or r k 0 ≡ row_byte (get_or line k 0) = λ k h. c.row_bytes-row.ensures (omega arith) (omega arith) k h in record {
       value = cut_value r line m n cut long each c.amplitude.result c.amplitude.ensures.value;
       right = cut_right r line m n cut long each c.amplitude.result c.amplitude.ensures.value c.amplitude.ensures.right;
     }

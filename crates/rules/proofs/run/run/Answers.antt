@@ -54,5 +54,5 @@ returns g c =
     let m = model c.loop-spot.diagram in
     let finds = g.R.Rule.finds c.args.rule.now in
     let does = g.R.Rule.does c.args.rule.now in
-    let end = chain_done (next_by finds does) c.args.budget c.loop-spot.steps (model c.args.diagram.now) m c.loop-spot.invariant.0 (next_none finds does m (sym c.find.ensures ∙ c.in-default.is)) in
+    let end = chain_done (next_by finds does) c.args.budget c.loop-spot.steps (model c.args.diagram.now) m c.loop-spot.invariant.0 (next_none finds does m (sym c.find.ensures ∙ c.in_default.is)) in
     record { steps = sym (ap (λ r. r.steps) end); finished = sym (ap (λ r. r.finished) end); after = sym (ap (λ r. r.model) end); kept = c.loop-spot.invariant.2 }

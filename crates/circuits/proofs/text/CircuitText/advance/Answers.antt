@@ -24,7 +24,7 @@ returns-in-Opening c =
     let s = c.args.self.now in
     let next : after_part s s.part ≡ scripted s.qubits s.wiring (gates_from s.qubits s.text.now s.at) =
     ⊎_elim (λ e. ap (after_part s) e) (λ e. ap (after_part s) e.2) c.in-Opening.is in
-    subst (λ t. Went t s c.go-on.result c.go-on.new.self) (sym (all_taken s c.requires.0 c.requires.1 ∙ next)) c.go-on.ensures
+    subst (λ t. Went t s c.go_on.result c.go_on.new.self) (sym (all_taken s c.requires.0 c.requires.1 ∙ next)) c.go_on.ensures
 
 pub returns-in-Closing : goal.returns-in-Closing
 unfolding after_part

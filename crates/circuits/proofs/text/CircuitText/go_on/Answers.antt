@@ -16,20 +16,20 @@ returns-then-self c =
       refl,
     )
 
-pub returns-in-err-gate : goal.returns-in-err-gate
-returns-in-err-gate c =
+pub returns-in_err-gate : goal.returns-in_err-gate
+returns-in_err-gate c =
     let s = c.args.self.now in
-    let p = err_from_is_err_and c.from-residual.result c.from-residual.ensures.1 in
-    rw (p.1, p.2) (at_fault s.qubits s.text.now s.at s.wiring c.if-self.false _ c.in-err-gate.ensures.value, refl)
+    let p = err_from_is_err_and c.from_residual.result c.from_residual.ensures.1 in
+    rw (p.1, p.2) (at_fault s.qubits s.text.now s.at s.wiring c.if-self.false _ c.in_err-gate.ensures.value, refl)
 
 pub returns : goal.returns
 returns c =
     let s = c.args.self.now in
-    let g = c.in-ok-gate.gate in
-    let q = c.in-ok-gate.end in (
+    let g = c.in_ok-gate.gate in
+    let q = c.in_ok-gate.end in (
       reading_is s.text.now q s.qubits c.add.new.self (Placed g s.wiring) 0 c.requires
           ∙ ap (λ w. gate_items s.wiring g ▸ scripted s.qubits w (gates_from s.qubits s.text.now q)) c.add.ensures
-          ∙ sym (at_gate s.qubits s.text.now s.at s.wiring c.if-self.false g q c.in-ok-gate.ensures.value),
+          ∙ sym (at_gate s.qubits s.text.now s.at s.wiring c.if-self.false g q c.in_ok-gate.ensures.value),
       λ none. absurd (gate_some s.wiring g none),
       refl,
     )

@@ -9,11 +9,11 @@ use Rattle.circuits.proofs.text.CircuitText.open.Goals as goal
 pub returns : goal.returns
 returns c =
     let bs = c.args.self.now.text.now in
-    let n = c.in-ok-qubits.qubits in
-    let p = c.in-ok-qubits.end in (
+    let n = c.in_ok-qubits.qubits in
+    let p = c.in_ok-qubits.end in (
       reading_is bs p n c.fresh-self.result Opening 0 c.requires
           ∙ ap (λ w. opening 0 n ▸ scripted n w (gates_from n bs p)) c.fresh-self.ensures
-          ∙ ap (headed bs) c.in-ok-qubits.ensures.value,
-      λ none. absurd (opening-some n c.in-ok-qubits.ensures.within.0 none),
+          ∙ ap (headed bs) c.in_ok-qubits.ensures.value,
+      λ none. absurd (opening-some n c.in_ok-qubits.ensures.within.0 none),
       refl,
     )

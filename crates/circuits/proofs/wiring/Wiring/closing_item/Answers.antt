@@ -13,7 +13,7 @@ returns c =
     record {
       value =
           ap Some c.leg.ensures
-          ∙ ap (λ s. Some (leg Output s)) (c.last-of.ensures ∙ ap (last_of c.args.self.now) same)
+          ∙ ap (λ s. Some (leg Output s)) (c.last_of.ensures ∙ ap (last_of c.args.self.now) same)
           ∙ sym (counted_at (λ q. leg Output (last_of c.args.self.now q)) 0 c.args.qubits c.args.step (omega arith));
       bound = search rules;
     }

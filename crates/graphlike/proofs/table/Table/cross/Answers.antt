@@ -10,7 +10,7 @@ unfolding crossed
 returns c = same-model _ _ (record {
   stands = λ s. refl;
   phase = λ s. refl;
-  edge = λ s t. c.cross.ensures s t ∙ (λ i. xor (linked c.args.self.now.links s t) (xor (c.neighbours-of-u.ensures s i && c.neighbours-of-v.ensures t i) (c.neighbours-of-v.ensures s i && c.neighbours-of-u.ensures t i)));
+  edge = λ s t. c.cross.ensures s t ∙ (λ i. xor (linked c.args.self.now.links s t) (xor (c.neighbours-of_u.ensures s i && c.neighbours-of_v.ensures t i) (c.neighbours-of_v.ensures s i && c.neighbours-of_u.ensures t i)));
   leg = λ l. refl;
   scalar = refl;
 })

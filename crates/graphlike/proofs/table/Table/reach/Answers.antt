@@ -3,14 +3,14 @@ use Rattle.rows.specs.Rows.{has}
 use Rattle.graphs.proofs.Sets.{total_most}
 use Rattle.graphlike.proofs.table.Table.reach.Goals as goal
 
-pub overflow-mul-result : goal.overflow-mul-result
-overflow-mul-result c = let most = total_most 320 (has c.args.self.now.standing) in let is = c.len.ensures in omega arith
+pub overflow_mul-result : goal.overflow_mul-result
+overflow_mul-result c = let most = total_most 320 (has c.args.self.now.standing) in let is = c.len.ensures in omega arith
 
-pub overflow-add-result : goal.overflow-add-result
-overflow-add-result c = let most = total_most 320 (has c.args.self.now.standing) in let is = c.len.ensures in let s = c.size.type-inv in omega arith
+pub overflow_add-result : goal.overflow_add-result
+overflow_add-result c = let most = total_most 320 (has c.args.self.now.standing) in let is = c.len.ensures in let s = c.size.type-inv in omega arith
 
-pub overflow-add-result-2 : goal.overflow-add-result-2
-overflow-add-result-2 c = let most = total_most 320 (has c.args.self.now.standing) in let is = c.len.ensures in let s = c.size.type-inv in let l = c.count.ensures.bound in omega arith
+pub overflow_add-result-2 : goal.overflow_add-result-2
+overflow_add-result-2 c = let most = total_most 320 (has c.args.self.now.standing) in let is = c.len.ensures in let s = c.size.type-inv in let l = c.count.ensures.bound in omega arith
 
 pub returns : goal.returns
 returns c =

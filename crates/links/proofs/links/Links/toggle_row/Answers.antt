@@ -9,5 +9,5 @@ pub returns : goal.returns
 returns c s t =
     let rs = c.args.self.now.rows in
     let low : c.number-number.result < length rs = search rules in
-    row-toggled rs c.number-number.result c.toggle-all.new.self (has c.args.others.now) low c.toggle-all.ensures s t
+    row-toggled rs c.number-number.result c.toggle_all.new.self (has c.args.others.now) low c.toggle_all.ensures s t
     ∙ ap (λ n. xor (linked c.args.self.now s t) (eqb s n && has c.args.others.now t)) c.number-number.ensures.value

@@ -6,4 +6,4 @@ use Rattle.loader.proofs.books.Books.new.Goals as goal
 
 pub returns : goal.returns
 unfolding loading_of
-returns c = record { start = λ i. record { model = blank; colours = []; place = fun_ext c.own-slots.ensures i; legs = 0 }; roomy = record { few = omega arith; whole = refl } }
+returns c = record { start = λ i. record { model = blank; colours = []; place = fun_ext c.own_slots.ensures i; legs = 0 }; roomy = record { few = omega arith; whole = refl } }

@@ -13,4 +13,4 @@ unfolding loading_of
 returns-in-Zero c =
     let b = c.args.self.now in
     let m = model c.args.diagram.now in
-    comes _ (goes_on (with_model (loading_of b m) (zeroed m))) c.args.number (Ok tt) b (model c.make-zero.new.self) (ap (λ (i : Item). taken (loading_of b m) i) c.in-Zero.is) (refl, changed b m (model c.make-zero.new.self) (zeroed m) c.make-zero.ensures, c.requires.0)
+    comes _ (goes_on (with_model (loading_of b m) (zeroed m))) c.args.number (Ok tt) b (model c.make_zero.new.self) (ap (λ (i : Item). taken (loading_of b m) i) c.in-Zero.is) (refl, changed b m (model c.make_zero.new.self) (zeroed m) c.make_zero.ensures, c.requires.0)

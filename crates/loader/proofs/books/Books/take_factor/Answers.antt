@@ -19,4 +19,4 @@ returns c =
     let fits : SFits w32 c.exponent.result = search rules in
     let k = to_z-of_z w32 c.exponent.result fits ∙ c.exponent.ensures in
     let room = c.multiply.ensures.judged ∙ ap (λ (x : ℤ). within (product x t m.scalar)) k ∙ ap within (sym (scaled-scalar z t m)) in
-    rw c.in-range.ensures (judged_comes (with_model (loading_of b m) (scaled z t m)) c.multiply.result c.args.number b (model c.multiply.new.diagram) room (λ on. changed b m (model c.multiply.new.diagram) (scaled z t m) (c.multiply.ensures.after on ∙ ap (λ (x : ℤ). scaled x t m) k)) c.requires)
+    rw c.in_range.ensures (judged_comes (with_model (loading_of b m) (scaled z t m)) c.multiply.result c.args.number b (model c.multiply.new.diagram) room (λ on. changed b m (model c.multiply.new.diagram) (scaled z t m) (c.multiply.ensures.after on ∙ ap (λ (x : ℤ). scaled x t m) k)) c.requires)

@@ -15,7 +15,7 @@ returns-then-done c =
     let b = c.scale-done.result in
     let after = subst (λ (z : ℤ). n ≡ cond b (scaled z t m) m) (to_z-of_z w32 c.args.k c.ranges.k) c.scale-done.ensures.after in
     let same = when_done b (scaled c.args.k t m) m n c.if-done.true after in record {
-      judged = c.is-within.ensures ∙ ap within (c.scalar.ensures ∙ ap (λ (o : Model). o.scalar) same ∙ scaled-scalar c.args.k t m);
+      judged = c.is_within.ensures ∙ ap within (c.scalar.ensures ∙ ap (λ (o : Model). o.scalar) same ∙ scaled-scalar c.args.k t m);
       after = λ _. same;
     }
 

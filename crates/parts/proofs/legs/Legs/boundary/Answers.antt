@@ -22,7 +22,7 @@ loop-number-preserved c s =
     let n = c.loop-number.number in
     let leg = leg_in ts in
     let low : n < length ts = search rules in
-    c.insert-slot.ensures s
+    c.insert_slot.ensures s
     ∙ ap₂ (λ o b. cond (on_slot s o) true b) (leg_read ts n c.index-self-number.result low) (c.loop-number.invariant s)
     ∙ sym (carried-more n leg s)
     ∙ ap (λ k. carried k leg s) (sym (add-one n))

@@ -9,11 +9,11 @@ use Rattle.rows.proofs.row.Row.len.Goals as goal
 pub loop-part-init : goal.loop-part-init
 loop-part-init c = sym (none_yet _)
 
-pub overflow-cast-sum : goal.overflow-cast-sum
-overflow-cast-sum c = let small : get_or c.args.self.now.words c.loop-part.part 0 < 2 ^ 64 = search rules in let few = ones-le 64 (get_or c.args.self.now.words c.loop-part.part 0) small in omega arith
+pub overflow_cast-sum : goal.overflow_cast-sum
+overflow_cast-sum c = let small : get_or c.args.self.now.words c.loop-part.part 0 < 2 ^ 64 = search rules in let few = ones-le 64 (get_or c.args.self.now.words c.loop-part.part 0) small in omega arith
 
-pub overflow-add-sum : goal.overflow-add-sum
-overflow-add-sum c =
+pub overflow_add-sum : goal.overflow_add-sum
+overflow_add-sum c =
     let small : get_or c.args.self.now.words c.loop-part.part 0 < 2 ^ 64 = search rules in
     let few = ones-le 64 (get_or c.args.self.now.words c.loop-part.part 0) small in
     let most = total_most (64 * c.loop-part.part) (has c.args.self.now) in

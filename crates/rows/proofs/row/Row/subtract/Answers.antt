@@ -10,6 +10,6 @@ without_both false b = refl
 
 pub returns : goal.returns
 returns c i =
-    c.toggle-all.ensures i
+    c.toggle_all.ensures i
     ∙ ap (xor (has c.args.self.now i)) (c.intersect.ensures i)
     ∙ without_both (has c.args.self.now i) (has c.args.other.now i)

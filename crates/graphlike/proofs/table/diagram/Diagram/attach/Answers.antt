@@ -13,13 +13,13 @@ with_one : (c : goal.After-set) → shape (record { links = c.args.self.now.tabl
 unfolding attached
 with_one c = same-model _ _ (record { stands = λ s. refl; phase = λ s. refl; edge = λ s t. refl; leg = c.set.ensures; scalar = refl })
 
-pub invariant-of-self : goal.invariant-of-self
-invariant-of-self c = owed _ (attached c.args.leg.number (open_leg c.args.«open») (model c.args.self.now)) (with_one c) (attached-sound c.args.leg.number (open_leg c.args.«open») (sound c.args.self.now) (sym c.can-attach-done.ensures ∙ c.if-done.true))
+pub invariant_of-self : goal.invariant_of-self
+invariant_of-self c = owed _ (attached c.args.leg.number (open_leg c.args.«open») (model c.args.self.now)) (with_one c) (attached-sound c.args.leg.number (open_leg c.args.«open») (sound c.args.self.now) (sym c.can_attach-done.ensures ∙ c.if-done.true))
 
 pub returns-then-done : goal.returns-then-done
 unfolding attached
 returns-then-done c = record {
-  done = c.can-attach-done.ensures;
+  done = c.can_attach-done.ensures;
   after = same-model _ _ (record { stands = λ s. refl; phase = λ s. refl; edge = λ s t. refl; leg = c.set.ensures; scalar = refl })
       ∙ sym (ap (λ b. cond b (attached c.args.leg.number (open_leg c.args.«open») (model c.args.self.now)) (model c.args.self.now)) c.if-done.true);
 }

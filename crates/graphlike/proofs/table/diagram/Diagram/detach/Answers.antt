@@ -11,8 +11,8 @@ without-one : (c : goal.After-set) → shape (record { links = c.args.self.now.t
 unfolding detached
 without-one c = same-model _ _ (record { stands = λ s. refl; phase = λ s. refl; edge = λ s t. refl; leg = c.set.ensures; scalar = refl })
 
-pub invariant-of-self : goal.invariant-of-self
-invariant-of-self c = owed _ (detached c.args.leg.number (model c.args.self.now)) (without-one c) (detached-sound c.args.leg.number (sound c.args.self.now))
+pub invariant_of-self : goal.invariant_of-self
+invariant_of-self c = owed _ (detached c.args.leg.number (model c.args.self.now)) (without-one c) (detached-sound c.args.leg.number (sound c.args.self.now))
 
 pub returns : goal.returns
 unfolding detached

@@ -6,5 +6,5 @@ use Rattle.graphlike.specs.Diagrams.{model}
 use Rattle.graphlike.proofs.Sounds.{sound, owed}
 use Rattle.graphlike.proofs.table.diagram.Diagram.fuse.Goals as goal
 
-pub invariant-of-self : goal.invariant-of-self
-invariant-of-self c = owed (shape c.fuse.new.self) (fused c.args.a.number c.args.b.number (model c.args.self.now)) c.fuse.ensures (fused-sound c.args.a.number c.args.b.number (sound c.args.self.now) (sym c.can-join-done.ensures ∙ c.if-done.true))
+pub invariant_of-self : goal.invariant_of-self
+invariant_of-self c = owed (shape c.fuse.new.self) (fused c.args.a.number c.args.b.number (model c.args.self.now)) c.fuse.ensures (fused-sound c.args.a.number c.args.b.number (sound c.args.self.now) (sym c.can_join-done.ensures ∙ c.if-done.true))

@@ -6,5 +6,5 @@ use Rattle.graphlike.specs.Diagrams.{model}
 use Rattle.graphlike.proofs.Sounds.{sound, owed}
 use Rattle.graphlike.proofs.table.diagram.Diagram.remove.Goals as goal
 
-pub invariant-of-self : goal.invariant-of-self
-invariant-of-self c = owed (shape c.remove.new.self) (removed c.args.slot.number (model c.args.self.now)) c.remove.ensures (removed-sound c.args.slot.number (sound c.args.self.now) (ap not (sym (c.boundary.ensures c.args.slot.number) ∙ sym c.holds-done.ensures ∙ c.if-done.true)))
+pub invariant_of-self : goal.invariant_of-self
+invariant_of-self c = owed (shape c.remove.new.self) (removed c.args.slot.number (model c.args.self.now)) c.remove.ensures (removed-sound c.args.slot.number (sound c.args.self.now) (ap not (sym (c.boundary.ensures c.args.slot.number) ∙ sym c.holds-done.ensures ∙ c.if-done.true)))

@@ -9,9 +9,9 @@ use Rattle.graphlike.proofs.Shapes.{same-model}
 use Rattle.graphlike.proofs.Sounds.{sound, owed}
 use Rattle.graphlike.proofs.table.diagram.Diagram.scale.Goals as goal
 
-pub invariant-of-self : goal.invariant-of-self
+pub invariant_of-self : goal.invariant_of-self
 unfolding scaled
-invariant-of-self c =
+invariant_of-self c =
     let m = model c.args.self.now in
     let k = to_z-of_z w32 c.args.k c.ranges.k in
     let can = subst (λ (z : ℤ). can_scale z c.args.m.eighths m ≡ true) k c.in-Some.ensures.0 in

@@ -6,5 +6,5 @@ use Rattle.graphlike.specs.Diagrams.{model}
 use Rattle.graphlike.proofs.Sounds.{sound, owed}
 use Rattle.graphlike.proofs.table.diagram.Diagram.turn.Goals as goal
 
-pub invariant-of-self : goal.invariant-of-self
-invariant-of-self c = owed (shape c.turn.new.self) (gained (has c.args.set.now) c.args.phase.quarters (model c.args.self.now)) c.turn.ensures (gained-sound (has c.args.set.now) c.args.phase.quarters (sound c.args.self.now))
+pub invariant_of-self : goal.invariant_of-self
+invariant_of-self c = owed (shape c.turn.new.self) (gained (has c.args.set.now) c.args.phase.quarters (model c.args.self.now)) c.turn.ensures (gained-sound (has c.args.set.now) c.args.phase.quarters (sound c.args.self.now))
