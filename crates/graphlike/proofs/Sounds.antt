@@ -37,19 +37,30 @@ sound d = record {
 
 -- what a diagram owes
 abbrev pub Owed : Model → Type 0
-Owed m =
-    ((s t : ℕ) → m.graph.edge s t ≡ m.graph.edge t s)
-    × (((s : ℕ) → m.graph.edge s s ≡ false)
-    × (((s t : ℕ) → m.graph.edge s t ≡ true → m.graph.stands s ≡ true)
-    × (((s : ℕ) → m.graph.stands s ≡ true → s < slots)
-    × (((s : ℕ) → m.graph.stands s ≡ false → m.graph.phase s ≡ 0)
-    × (((l : ℕ) (o : ModelLeg) → m.leg l ≡ Some o → l < leg_limit)
-    × (((l : ℕ) (o : ModelLeg) → m.leg l ≡ Some o → m.graph.stands o.slot ≡ true)
-    × (((l : ℕ) (o : ModelLeg) → m.leg l ≡ Some o → m.graph.stands (spider_limit + l) ≡ false)
-    × ((reach m ≤ reach_limit) × Prim.Unit))))))))
+Owed m = record {
+  symmetric : (s t : ℕ) → m.graph.edge s t ≡ m.graph.edge t s;
+  loopless : (s : ℕ) → m.graph.edge s s ≡ false;
+  standing : (s t : ℕ) → m.graph.edge s t ≡ true → m.graph.stands s ≡ true;
+  inside : (s : ℕ) → m.graph.stands s ≡ true → s < slots;
+  blank : (s : ℕ) → m.graph.stands s ≡ false → m.graph.phase s ≡ 0;
+  few : (l : ℕ) (o : ModelLeg) → m.leg l ≡ Some o → l < leg_limit;
+  held : (l : ℕ) (o : ModelLeg) → m.leg l ≡ Some o → m.graph.stands o.slot ≡ true;
+  free : (l : ℕ) (o : ModelLeg) → m.leg l ≡ Some o → m.graph.stands (spider_limit + l) ≡ false;
+  range : reach m ≤ reach_limit
+}
 
 -- is that its model is sound
 pub owed : (m n : Model) → m ≡ n → Sound n → Owed m
 owed m n same s =
     let h : Sound m = subst Sound (sym same) s in
-    (h.graph.symmetric, (h.graph.loop_free, (h.graph.standing, (h.inside, (h.blank, (h.few, (h.held, (h.free, (h.range, tt)))))))))
+    record {
+      symmetric = h.graph.symmetric;
+      loopless = h.graph.loop_free;
+      standing = h.graph.standing;
+      inside = h.inside;
+      blank = h.blank;
+      few = h.few;
+      held = h.held;
+      free = h.free;
+      range = h.range;
+    }

@@ -1,4 +1,4 @@
-use Rattle.std.proofs.Common.{◌≡◌, ℕ, ◌%◌, ◌<◌, min, max, true, false, cond, sym, refl, ap, ◌∙◌, subst, ap₂, true≢false, arith, ne_eqb}
+use Rattle.std.proofs.Common.{◌≡◌, ℕ, ◌%◌, ◌<◌, min, max, true, false, cond, sym, refl, ap, ◌∙◌, subst, ap₂, true≢false, arith, eq-eqb, ne_eqb}
 use Rattle.models.specs.Edits.{fused, can_fuse}
 use Rattle.loadings.specs.Loadings.{placed_again}
 use Rattle.graphlike.specs.Diagrams.{model}
@@ -16,7 +16,7 @@ returns c =
     let b = c.args.b.number in
     let low_a = c.requires.0 in
     let low_b = c.requires.1.0 in
-    let apart : a ≡ b → ⊥ = λ e. true≢false (sym (c.eq.ensures.1 e) ∙ c.if-eq.false) in
+    let apart : a ≡ b → ⊥ = λ e. true≢false (sym (c.eq.ensures ∙ eq-eqb a b e) ∙ c.if-eq.false) in
     let lower : c.min-lower.result ≡ min a b = c.min-lower.ensures ∙ ap₂ min c.number.ensures.value c.number-2.ensures.value in
     let upper : c.max-upper.result ≡ max a b = c.max-upper.ensures ∙ ap₂ max c.number-3.ensures.value c.number-4.ensures.value in
     let of_lower : c.of.result.number ≡ min a b = c.of.ensures ∙ omega arith in

@@ -10,4 +10,4 @@ invariant_of-self c =
     let b = c.args.from.number in
     let old = leg_in c.args.self.now.table in
     let new = leg_in c.lead_all.new.table in
-    (c.args.self.now.counted ∙ sym (legs-led 64 0 a b old) ∙ ap length (legs-same 64 0 (λ k. led a b (old k)) new (λ k l h. sym (c.lead_all.ensures k))), tt)
+    record { counted = c.args.self.now.counted ∙ sym (legs-led 64 0 a b old) ∙ ap length (legs-same 64 0 (λ k. led a b (old k)) new (λ k l h. sym (c.lead_all.ensures k))) }

@@ -20,4 +20,4 @@ invariant_of-self c =
     let after : bit c.is_some.result ≡ bit (is_some c.args.now_open) = ap bit c.is_some.ensures in
     let again = c.recount-count.ensures (omega arith) (omega arith) in
     let same : c.recount-count.result ≡ opened c.replaced-table.result = omega arith in
-    (same, tt)
+    record { counted = same }
