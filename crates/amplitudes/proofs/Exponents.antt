@@ -1,16 +1,15 @@
 -- Literal products and powers of i are equal, term by term. Assumes nothing.
-use Rattle.std.proofs.Common.{◌≡◌, ℕ, ◌+◌, ◌*◌, Bool, true, false, cond, ◌&&◌, List, [], ◌∷◌, sym, refl, ap, ◌∙◌, ap₂}
-use Rattle.amounts.specs.Amounts.{Amounts, Lawful, power, turned, quarter}
-use Rattle.graphs.specs.Graphs.{Bits, quarters}
+use Rattle.std.proofs.Common.{◌≡◌, ℕ, ◌+◌, Bool, true, false, cond, ◌&&◌, [], ◌∷◌, sym, refl, ap, ◌∙◌, ap₂}
+use Rattle.amounts.specs.Amounts.{Amounts, Lawful}
+use Rattle.graphs.specs.Graphs.{quarters}
 use Rattle.graphs.proofs.Literal.{quarter-power, if_set}
 use Rattle.amounts.proofs.Turns.{turned_none}
 use Rattle.graphs.proofs.Turns.{quarters-add}
 use Rattle.diagrams.specs.declared.items.Kind.{Kind}
 use Rattle.diagrams.specs.declared.items.Kind.TheVariants.{Plain, Hadamard}
-use Rattle.diagrams.specs.declared.items.Item.{Item}
 use Rattle.diagrams.specs.declared.items.Item.TheVariants.{Spider, Wire, Leg, Factor, Zero}
-use Rattle.amplitudes.specs.Items.{wire_kind, leg_kind, leg_bit, row_after, joint, term}
-use Rattle.amplitudes.specs.Exponents.{joint_turns, allows, exponent, allowed, TermsArePowers}
+use Rattle.amplitudes.specs.Items.{wire_kind, leg_kind, leg_bit, row_after, joint}
+use Rattle.amplitudes.specs.Exponents.{joint_turns, allows, allowed, TermsArePowers}
 
 module _ (A : Amounts) (laws : Lawful A) where
   abbrev weighed : Bool → ℕ → A.Amount

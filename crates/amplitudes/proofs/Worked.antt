@@ -1,9 +1,9 @@
 -- The worked amounts, by one computed test over all of them. Assumes nothing.
-use Rattle.std.proofs.Common.{◌≡◌, Bool, true, false, ◌&&◌, T, eqb, List, [], ◌∷◌, ℤ, pos, negsuc, refl, ap, eqb→eq}
+use Rattle.std.proofs.Common.{◌≡◌, Bool, true, false, ◌&&◌, T, eqb, List, [], ◌∷◌, ℤ, pos, negsuc, ap, eqb→eq}
 use Rattle.std.specs.List.{AllByRecursion}
 use Rattle.amounts.specs.Amounts.{power}
 use Rattle.amounts.specs.Eighths.{Eighths, none, unit, eighth_turn, plus, times}
-use Rattle.amounts.specs.Scalars.{Scaled, Same, rooted, excess}
+use Rattle.amounts.specs.Scalars.{Scaled, rooted, excess}
 use Rattle.amounts.proofs.Eighths.{same}
 use Rattle.graphs.specs.Graphs.{sum}
 use Rattle.amplitudes.specs.Items.{amplitude}

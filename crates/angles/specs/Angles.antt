@@ -1,5 +1,5 @@
 -- Quarter turns and eighth turns, each counted round and round. Assumes nothing.
-use Rattle.std.specs.Prelude.{ℕ, ◌/◌, ◌%◌, ◌<◌, cond, Some, None, Option, ◌==◌, nat_lt}
+use Rattle.std.specs.Prelude.{ℕ, ◌/◌, ◌%◌, cond, Some, None, Option, ◌==◌, nat_lt}
 use Rattle.std.proofs.Common.{arith}
 use Rattle.angles.specs.declared.quarter.Phase.{Phase}
 use Rattle.angles.specs.declared.eighth.Turn.{Turn}

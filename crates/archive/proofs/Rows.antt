@@ -1,12 +1,12 @@
 -- Rows of bytes read one by one, and legs closed one by one. Assumes nothing.
-use Rattle.std.proofs.Common.{◌≡◌, ℕ, zero, suc, ◌+◌, ◌<◌, ◌≤◌, Bool, true, false, eqb, ltb, List, [], ◌∷◌, length, get_or, drop, is_some, Some, None, Ok, Err, Option, Result, sym, refl, ap, ◌∙◌, add-one, arith, drop-cons}
+use Rattle.std.proofs.Common.{◌≡◌, ℕ, zero, suc, ◌+◌, ◌<◌, Bool, true, false, eqb, ltb, List, [], ◌∷◌, length, get_or, drop, is_some, Some, None, Ok, Err, Option, Result, sym, refl, ap, ◌∙◌, add-one, arith, drop-cons}
 use Rattle.amplitudes.specs.Items.{first_bit, other_bits}
 use Rattle.models.specs.Models.{ModelLeg, Model, open_count}
 use Rattle.reductions.specs.Answers.{Answer as Answered, answered, closed_leg, closed_from}
 use Rattle.reductions.proofs.Closing.{closed_none, closed_some}
 use Rattle.graphs.specs.Counts.{bit}
 use Rattle.refusals.specs.declared.AskRefusal.{AskRefusal}
-use Rattle.refusals.specs.declared.AskRefusal.TheVariants.{RowLength, RowByte}
+use Rattle.refusals.specs.declared.AskRefusal.TheVariants.{RowLength}
 use Rattle.archive.specs.Questions.{bits, first_bad, closes, judged, judged_byte, judged_row, asked}
 
 -- a byte that is a bit is passed over

@@ -1,5 +1,5 @@
 -- A question for the amplitude at a row of bytes, and its answer. Assumes nothing.
-use Rattle.std.specs.Prelude.{◌≡◌, ℕ, ◌+◌, Bool, true, false, List, [], ◌∷◌, length, Some, None, Ok, Err, Option, Result, ◌==◌, nat_lt}
+use Rattle.std.specs.Prelude.{ℕ, ◌+◌, Bool, true, false, List, [], ◌∷◌, length, Some, None, Ok, Err, Option, Result, ◌==◌, nat_lt}
 use Rattle.refusals.specs.declared.AskRefusal.{AskRefusal}
 use Rattle.refusals.specs.declared.AskRefusal.TheVariants.{RowLength, RowByte}
 use Rattle.models.specs.Models.{ModelLeg, Model, open_count}

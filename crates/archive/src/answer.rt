@@ -1,6 +1,6 @@
 // The amplitude of a diagram at a row.
 ghost use Rattle.std.specs.Prelude.{◌≡◌, ◌+◌, ◌<◌, ◌≤◌, is_some, Ok, Err, MatchResult, ◌==◌, slice_index};
-ghost use Rattle.graphs.specs.Counts.{bit as one-if};
+ghost use Rattle.graphs.specs.Counts.{bit as one_if};
 ghost use Rattle.models.specs.Edits.{blank};
 ghost use Rattle.reductions.specs.Answers.{closed, Right};
 ghost use Rattle.graphlike.specs.Diagrams.{model};
@@ -57,7 +57,7 @@ fn close(work: &mut Diagram, leg: LegNumber, bit: bool) -> bool
 
 // Closes the leg of a number, if it is open, at the next bit of a row, and says which bit is next then.
 fn close_number(work: &mut Diagram, number: usize, row: &[u8], next: usize) -> usize
-    ensures next { number < 64 → next ≤ number → result ≡ next + one-if (is_some ((model work.old).leg number)) }
+    ensures next { number < 64 → next ≤ number → result ≡ next + one_if (is_some ((model work.old).leg number)) }
     ensures after { number < 64 → model work.new ≡ closes number (slice_index row.now next == 1) (model work.old) ((model work.old).leg number) }
 {
     let Some(leg) = LegNumber::new(number) else {

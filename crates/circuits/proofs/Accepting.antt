@@ -1,5 +1,5 @@
 -- A text that is accepted spells the gates that are read of it. Assumes nothing.
-use Rattle.std.proofs.Common.{◌≡◌, ℕ, zero, suc, ◌+◌, ◌-◌, ◌*◌, ◌/◌, ◌%◌, ◌<◌, ◌≤◌, Bool, true, false, cond, ◌&&◌, eqb, ltb, leb, ◌⊎◌, List, [], ◌∷◌, ◌++◌, length, get_or, take, drop, Ok, Err, Result, sym, refl, ap, ◌∙◌, subst, inl, inr, ⊎_elim, append_assoc, arith, ltb-false, ltb-true, le-ltb, lt-ltb, eq-eqb, ne_eqb, eqb-true, leb-false, leb-true}
+use Rattle.std.proofs.Common.{◌≡◌, ℕ, zero, suc, ◌+◌, ◌-◌, ◌*◌, ◌/◌, ◌%◌, ◌<◌, ◌≤◌, Bool, true, false, cond, ◌&&◌, eqb, ltb, leb, ◌⊎◌, List, [], ◌∷◌, ◌++◌, length, get_or, take, drop, Ok, Err, Result, sym, refl, ap, ◌∙◌, subst, inl, inr, ⊎_elim, append_assoc, arith, ltb-false, ltb-true, le-ltb, lt-ltb, eqb-true, leb-true}
 use borrow.Author.Tests.{eqb-false}
 use Rattle.std.proofs.lemmas.List.{drop_more, drop_all, get_or_past}
 use Rattle.std.proofs.lemmas.Bool.Decides.{nat_tests, leb_tells}
@@ -13,7 +13,7 @@ use Rattle.diagrams.specs.Streams.{Stream, End, finish, broken, only}
 use Rattle.circuits.specs.Circuits.{Script, line_then, lines, gates_from, headed, circuit}
 use Rattle.circuits.proofs.Moves.{gate_past}
 use Rattle.circuits.specs.Tokens.{decimal, is_digit, digits_at, number_at, line_end}
-use Rattle.circuits.specs.Spelling.{spell_number, single_letter, double_letter, spell_gate, spell, Valid, Spelling}
+use Rattle.circuits.specs.Spelling.{spell_number, single_letter, double_letter, spell_gate, Valid, Spelling}
 use Rattle.circuits.specs.Lines.{onward, named, tested_at, qubit_at, other_at, count_at, operands_at, gate_at, head_at}
 use Rattle.circuits.specs.declared.lines.Name.{Name}
 use Rattle.circuits.specs.declared.lines.Name.TheVariants.{OneQubit, TwoQubits}

@@ -1,10 +1,9 @@
 -- What stands at each place of the opening and of the closing items. Assumes nothing.
-use Rattle.std.proofs.Common.{◌≡◌, ℕ, zero, suc, ◌+◌, ◌*◌, ◌/◌, ◌%◌, ◌<◌, ◌≤◌, cond, eqb, ltb, List, [], ◌∷◌, map, Some, None, sym, refl, ap, ◌∙◌, arith}
+use Rattle.std.proofs.Common.{◌≡◌, ℕ, zero, suc, ◌+◌, ◌*◌, ◌<◌, ◌≤◌, map, Some, None, refl, ap, ◌∙◌, arith}
 use Rattle.std.specs.List.{range_with_len, slice_get}
 use Rattle.diagrams.specs.declared.items.Colour.TheVariants.{Z}
-use Rattle.diagrams.specs.declared.items.Side.TheVariants.{Input, Output}
-use Rattle.circuits.specs.Gates.{spider, leg, opening, closing, last_of}
-use Rattle.circuits.specs.declared.wiring.Wiring.{Wiring}
+use Rattle.diagrams.specs.declared.items.Side.TheVariants.{Input}
+use Rattle.circuits.specs.Gates.{spider, leg, opening}
 
 -- at an even place a spider, and at an odd one a leg
 pub opening-even : (q n s : ℕ) → s < n → slice_get (opening q n) (2 * s) ≡ Some (spider Z 0)

@@ -1,7 +1,6 @@
 -- Reading a line goes forward, and what the lines from a place on give, one line at a time. Assumes nothing.
-use Rattle.std.proofs.Common.{◌≡◌, ℕ, zero, suc, ◌+◌, ◌<◌, ◌≤◌, Bool, true, false, cond, eqb, ltb, leb, List, [], ◌∷◌, length, get_or, Ok, Err, Result, sym, refl, ap, ◌∙◌, subst, le_of_lt, arith, le-leb}
+use Rattle.std.proofs.Common.{◌≡◌, ℕ, zero, suc, ◌+◌, ◌<◌, ◌≤◌, Bool, true, false, cond, eqb, ltb, leb, List, [], ◌∷◌, length, get_or, Ok, Err, Result, refl, ap, ◌∙◌, subst, le_of_lt, arith, le-leb}
 use borrow.Author.Tests.{lt-leb}
-use Rattle.std.proofs.lemmas.Bool.Decides.{leb_tells, nat_tests}
 use Rattle.refusals.specs.declared.Fault.{Fault}
 use Rattle.diagrams.specs.Streams.{finish}
 use Rattle.circuits.specs.declared.gates.Gate.{Gate}

@@ -1,5 +1,5 @@
 -- A text that spells a circuit is read as its gates. Assumes nothing.
-use Rattle.std.proofs.Common.{◌≡◌, ℕ, zero, suc, ◌+◌, ◌-◌, ◌*◌, ◌/◌, ◌%◌, ◌<◌, ◌≤◌, Bool, true, false, cond, ◌&&◌, eqb, ltb, leb, List, [], ◌∷◌, ◌++◌, length, get_or, take, drop, Ok, Err, sym, refl, ap, ◌∙◌, subst, append_assoc, arith, ltb-false, ltb-true, lt-ltb, eq-eqb, ne_eqb}
+use Rattle.std.proofs.Common.{◌≡◌, ℕ, suc, ◌+◌, ◌/◌, ◌%◌, ◌<◌, ◌≤◌, Bool, true, false, cond, ◌&&◌, eqb, ltb, leb, List, [], ◌∷◌, ◌++◌, length, get_or, take, drop, Ok, sym, refl, ap, ◌∙◌, append_assoc, arith, ltb-false, ltb-true, lt-ltb, eq-eqb, ne_eqb}
 use borrow.Author.Tests.{lt-leb}
 use Rattle.std.proofs.lemmas.List.{get_or-drop, drop-drop, take_at, drop_at, length-append, length-drop}
 use Rattle.std.proofs.lemmas.Bool.Decides.{nat_tests}
@@ -18,7 +18,7 @@ use Rattle.circuits.specs.declared.lines.Name.TheVariants.{OneQubit, TwoQubits}
 use Rattle.circuits.specs.Lines.{onward, named, tested_at, operands_at, gate_at, head_at}
 use Rattle.circuits.specs.Circuits.{Script, line_then, gates_from, headed, circuit}
 use Rattle.circuits.proofs.Moves.{gates_end, gates-more}
-use Rattle.circuits.specs.Spelling.{spell_number, single_letter, double_letter, spell_gate, spell, Valid, Spells}
+use Rattle.circuits.specs.Spelling.{spell_number, single_letter, double_letter, spell_gate, Valid, Spells}
 
 module _ (bs : List ℕ) (p : ℕ) (xs : List ℕ) (e : drop p bs ≡ xs) where
   byte : (k : ℕ) → get_or bs (p + k) 0 ≡ get_or xs k 0

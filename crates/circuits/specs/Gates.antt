@@ -11,7 +11,6 @@ use Rattle.diagrams.specs.declared.items.Kind.TheVariants.{Plain, Hadamard as Ha
 use Rattle.diagrams.specs.declared.items.Side.{Side}
 use Rattle.diagrams.specs.declared.items.Side.TheVariants.{Input, Output}
 use Rattle.diagrams.specs.declared.items.Setting.TheVariants.{Open}
-use Rattle.diagrams.specs.declared.items.Spider.{Spider as SpiderData}
 use Rattle.diagrams.specs.declared.items.Item.{Item}
 use Rattle.diagrams.specs.declared.items.Item.TheVariants.{Spider, Wire, Leg, Factor}
 use Rattle.circuits.specs.declared.gates.Single.{Single}

@@ -2,7 +2,7 @@
 ghost use Rattle.std.specs.Prelude.{◌≡◌, ◌+◌, ◌*◌, ◌<◌, ◌≤◌, true, is_some, slice_set};
 ghost use Rattle.std.specs.List.{slice_get};
 ghost use Rattle.circuits.specs.declared.gates.Gate.TheVariants.{One, Two};
-ghost use Rattle.circuits.specs.Gates.{spider as spider-item, wire as wire-item, leg as leg-item, root_two};
+ghost use Rattle.circuits.specs.Gates.{spider as spider_item, wire as wire_item, leg as leg_item, root_two};
 ghost use Rattle.circuits.specs.Gates.{gate_items, wired, fresh, opening, closing, last_of, single_spider, single_kind, second_colour, between_kind, spiders_of};
 
 use crate::gates::{Double, Gate, Single};
@@ -18,7 +18,7 @@ pub struct Wiring {
 }
 
 fn spider(colour: Colour, quarters: u8) -> Item
-    ensures { result ≡ spider-item colour quarters }
+    ensures { result ≡ spider_item colour quarters }
 {
     Item::Spider(Spider {
         colour,
@@ -27,7 +27,7 @@ fn spider(colour: Colour, quarters: u8) -> Item
 }
 
 fn wire(first: u16, second: u16, kind: Kind) -> Item
-    ensures { result ≡ wire-item first second kind }
+    ensures { result ≡ wire_item first second kind }
 {
     Item::Wire(Wire {
         first,
@@ -37,7 +37,7 @@ fn wire(first: u16, second: u16, kind: Kind) -> Item
 }
 
 fn leg(side: Side, spider: u16) -> Item
-    ensures { result ≡ leg-item side spider }
+    ensures { result ≡ leg_item side spider }
 {
     Item::Leg(Leg {
         side,

@@ -1,5 +1,5 @@
 -- A stream whose next items are what is left of a list. Assumes nothing.
-use Rattle.std.proofs.Common.{◌≡◌, ℕ, ◌+◌, ◌<◌, ◌≤◌, List, [], ◌∷◌, ◌++◌, length, get_or, drop, Some, Ok, sym, refl, ap, ◌∙◌}
+use Rattle.std.proofs.Common.{◌≡◌, ℕ, ◌+◌, ◌<◌, ◌≤◌, List, length, get_or, drop, Some, Ok, ap}
 use Rattle.std.proofs.lemmas.List.{drop_more, drop_all}
 use Rattle.diagrams.specs.declared.items.Item.{Item}
 use Rattle.diagrams.specs.Streams.{Stream, answer, after, ◌▸◌}

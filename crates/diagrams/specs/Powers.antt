@@ -1,5 +1,5 @@
 -- Powers of the root of two, by their exponents. Assumes nothing.
-use Rattle.std.specs.Prelude.{ℕ, ◌-◌, ◌≤◌, min, cond, ℤ, pos, negsuc, Some, None, Option, nat_le, unsigned_abs}
+use Rattle.std.specs.Prelude.{◌-◌, ◌≤◌, min, cond, ℤ, pos, negsuc, Some, None, Option, nat_le, unsigned_abs}
 use Rattle.std.proofs.Common.{arith}
 use Rattle.diagrams.specs.Limits.{limit}
 use Rattle.diagrams.specs.declared.power.Power.{Power}

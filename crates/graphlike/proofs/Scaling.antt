@@ -1,5 +1,5 @@
 -- When a scalar's power stays in reach. Assumes nothing.
-use Rattle.std.proofs.Common.{◌≡◌, ℕ, ◌+◌, ◌*◌, ◌<◌, ◌≤◌, Bool, true, false, leb, ℤ, refl, ap, ◌∙◌, arith, le-leb}
+use Rattle.std.proofs.Common.{◌≡◌, ℕ, ◌+◌, ◌*◌, ◌<◌, ◌≤◌, true, false, ℤ, refl, ap, arith, le-leb}
 use borrow.Author.Tests.{lt-leb}
 use Rattle.models.specs.Models.{Scalar, Model, size, standing, open_count, reach_limit}
 use Rattle.models.specs.Edits.{product, scaled, can_scale}

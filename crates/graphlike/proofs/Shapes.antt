@@ -1,7 +1,6 @@
 -- Models that agree slot by slot and leg by leg are equal. Assumes nothing.
-use Rattle.std.proofs.Common.{◌≡◌, ℕ, Bool, sym, refl, ap}
+use Rattle.std.proofs.Common.{◌≡◌, ℕ}
 use mathlib.Core.Path.{fun_ext}
-use Rattle.graphs.specs.Graphs.{Graph}
 use Rattle.models.specs.Models.{Model}
 
 pub record Alike (m n : Model) : Type 0 where

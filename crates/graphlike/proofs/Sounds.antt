@@ -1,10 +1,8 @@
 -- What holds of every diagram is that its model is sound, and the other way round. Assumes nothing.
-use Rattle.std.proofs.Common.{◌≡◌, ℕ, ◌+◌, ◌*◌, ◌<◌, ◌≤◌, Bool, true, false, Some, sym, refl, subst, arith}
+use Rattle.std.proofs.Common.{◌≡◌, ℕ, ◌+◌, ◌*◌, ◌<◌, ◌≤◌, Bool, true, false, Some, sym, subst, arith}
 use Rattle.graphs.specs.Counts.{bit}
 use Rattle.models.specs.Models.{Model, ModelLeg, Sound, BelowFullTurn, slots, spider_limit, leg_limit, reach, reach_limit}
 use Rattle.rows.specs.Rows.{has}
-use Rattle.links.specs.declared.phases.Phases.{Phases}
-use Rattle.links.specs.Links.{phase_at}
 use Rattle.parts.specs.declared.scalar.Scalar.{Scalar}
 use Rattle.parts.specs.declared.scalar.Scalar.TheVariants.{Zero, Root}
 use Rattle.parts.specs.Scales.{scale_of}
@@ -46,7 +44,7 @@ Owed m = record {
   few : (l : ℕ) (o : ModelLeg) → m.leg l ≡ Some o → l < leg_limit;
   held : (l : ℕ) (o : ModelLeg) → m.leg l ≡ Some o → m.graph.stands o.slot ≡ true;
   free : (l : ℕ) (o : ModelLeg) → m.leg l ≡ Some o → m.graph.stands (spider_limit + l) ≡ false;
-  range : reach m ≤ reach_limit
+  range : reach m ≤ reach_limit;
 }
 
 -- is that its model is sound

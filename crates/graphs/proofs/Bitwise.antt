@@ -1,9 +1,9 @@
 -- Bits as numbers: toggling, and setting the bit of one slot. Assumes nothing.
-use Rattle.std.proofs.Common.{◌≡◌, ℕ, zero, suc, ◌+◌, ◌-◌, ◌*◌, ◌/◌, ◌%◌, ◌<◌, ◌≤◌, Bool, true, false, cond, ◌&&◌, eqb, sym, refl, ap, ◌∙◌, arith, eqb-true}
+use Rattle.std.proofs.Common.{◌≡◌, ℕ, ◌+◌, ◌*◌, ◌<◌, Bool, true, false, cond, ◌&&◌, eqb, refl, ap, ◌∙◌, arith, eqb-true}
 use Rattle.graphs.specs.Counts.{bit, total, pairs}
 use Rattle.graphs.specs.Graphs.{Graph, Bits, SoundGraph, put, turns}
 use Rattle.graphs.specs.Rules.{xor}
-use Rattle.graphs.proofs.Counting.{at, total-same, total-add, total_at, pairs-same, pairs-add, pairs_at, pairs-nothing}
+use Rattle.graphs.proofs.Counting.{at, total-same, total-add, total_at, pairs-same, pairs-add, pairs_at}
 
 pub bit-xor : (a b : Bool) → bit (xor a b) + 2 * (bit a * bit b) ≡ bit a + bit b
 bit-xor false false = refl

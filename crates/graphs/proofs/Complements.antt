@@ -1,5 +1,5 @@
 -- Local complementation keeps the sum, but for √2·w or √2·w⁷. Assumes nothing.
-use Rattle.std.proofs.Common.{◌≡◌, ℕ, ◌+◌, ◌-◌, ◌*◌, ◌%◌, ◌<◌, Bool, true, false, ◌&&◌, sym, refl, ap, ◌∙◌, ap₂, mul_assoc, mul_comm, arith}
+use Rattle.std.proofs.Common.{◌≡◌, ℕ, ◌+◌, ◌-◌, ◌*◌, ◌%◌, false, ◌&&◌, sym, refl, ap, ◌∙◌, ap₂, mul_assoc, mul_comm, arith}
 use native.Mathlib.Nat.{mod-mod}
 use Rattle.amounts.specs.Amounts.{Amounts, Lawful}
 use Rattle.graphs.specs.Counts.{bit, total, pairs}

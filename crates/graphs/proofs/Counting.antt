@@ -1,5 +1,5 @@
 -- Sums over slots and pairs: they are linear, and a product of two sums is a sum over pairs. Assumes nothing.
-use Rattle.std.proofs.Common.{◌≡◌, ℕ, zero, suc, ◌+◌, ◌*◌, ◌%◌, ◌<◌, ◌≤◌, Bool, true, false, cond, eqb, sym, refl, ap, ◌∙◌, ap₂, ⊎_elim, mul_assoc, mul_comm, add-mul, mul-add, arith, eq-eqb, ne_eqb}
+use Rattle.std.proofs.Common.{◌≡◌, ℕ, zero, suc, ◌+◌, ◌*◌, ◌%◌, ◌<◌, true, false, eqb, sym, refl, ap, ◌∙◌, ap₂, ⊎_elim, mul_assoc, add-mul, arith, eq-eqb, ne_eqb}
 use native.Mathlib.Nat.{add-mod}
 use Rattle.std.proofs.lemmas.Bool.Decides.{eqb_tells}
 use Rattle.graphs.specs.Counts.{bit, total, pairs}

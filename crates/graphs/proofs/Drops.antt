@@ -1,12 +1,12 @@
 -- Removal of an isolated spider keeps the sum, but for √2², or makes it zero. Assumes nothing.
-use Rattle.std.proofs.Common.{◌≡◌, ℕ, ◌+◌, ◌*◌, ◌%◌, ◌<◌, Bool, true, false, ◌⊎◌, sym, refl, ap, ◌∙◌, subst, ⊎_elim, arith}
+use Rattle.std.proofs.Common.{◌≡◌, ℕ, ◌+◌, ◌*◌, ◌%◌, Bool, true, false, ◌⊎◌, sym, refl, ap, ◌∙◌, subst, ⊎_elim, arith}
 use Rattle.amounts.specs.Amounts.{Amounts, Lawful, turned, root_two}
 use Rattle.graphs.specs.Counts.{bit, total, pairs}
 use Rattle.graphs.specs.Graphs.{Graph, Bits, turns, quarters}
 use Rattle.graphs.specs.Rules.{xor, Dropped, DropSound, drop_pays}
 use Rattle.graphs.proofs.Bitwise.{beside}
 use Rattle.graphs.proofs.Counting.{total-nothing, pairs-nothing}
-use Rattle.graphs.proofs.Shifts.{Shifted, turns_shifted}
+use Rattle.graphs.proofs.Shifts.{turns_shifted}
 use Rattle.graphs.proofs.Slots.{other_than, one_out}
 use Rattle.amounts.proofs.Turns.{turned_none}
 use Rattle.graphs.proofs.Turns.{one_and_one}

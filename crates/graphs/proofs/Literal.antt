@@ -3,8 +3,8 @@ use Rattle.std.proofs.Common.{◌≡◌, ℕ, zero, suc, ◌+◌, ◌*◌, Bool,
 use mathlib.Core.Path.{fun_ext}
 use Rattle.amounts.specs.Amounts.{Amounts, Lawful, power, turned, quarter}
 use Rattle.graphs.specs.Counts.{bit, total, pairs}
-use Rattle.graphs.specs.Graphs.{Graph, Bits, turns, quarters}
-use Rattle.graphs.specs.Literal.{product, pair_product, literal, TurnsAreLiteral}
+use Rattle.graphs.specs.Graphs.{turns, quarters}
+use Rattle.graphs.specs.Literal.{product, pair_product, TurnsAreLiteral}
 use Rattle.amounts.proofs.Turns.{turned-add, turned_none}
 use Rattle.graphs.proofs.Turns.{quarters-add}
 

@@ -1,5 +1,5 @@
 -- Pivoting keeps the sum, but for √2²·w^(4ab). Assumes nothing.
-use Rattle.std.proofs.Common.{◌≡◌, ℕ, ◌+◌, ◌-◌, ◌*◌, ◌/◌, ◌%◌, ◌<◌, Bool, true, false, ◌&&◌, ◌⊎◌, sym, refl, ap, ◌∙◌, ap₂, ⊎_elim, mul_assoc, mul_comm, arith}
+use Rattle.std.proofs.Common.{◌≡◌, ℕ, ◌+◌, ◌*◌, ◌/◌, ◌%◌, Bool, false, ◌&&◌, ◌⊎◌, sym, ap, ◌∙◌, ap₂, ⊎_elim, mul_assoc, mul_comm, arith}
 use native.Mathlib.Nat.{mod-mod}
 use Rattle.amounts.specs.Amounts.{Amounts, Lawful, turned, root_two}
 use Rattle.amounts.proofs.Powers.{one-mul}

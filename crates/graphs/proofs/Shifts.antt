@@ -1,6 +1,5 @@
 -- How the quarter turns of a term change with the phases and edges of a graph. Assumes nothing.
 use Rattle.std.proofs.Common.{◌≡◌, ℕ, ◌+◌, ◌*◌, ◌/◌, ◌%◌, ◌<◌, Bool, true, false, sym, refl, ap, ◌∙◌, arith}
-use native.Mathlib.Nat.{add-mod}
 use Rattle.graphs.specs.Counts.{bit, total, pairs}
 use Rattle.graphs.specs.Graphs.{Graph, Bits, turns}
 use Rattle.graphs.specs.Rules.{xor}

@@ -1,8 +1,8 @@
 -- Summing over the bit of a slot that goes, or of two. Assumes nothing.
-use Rattle.std.proofs.Common.{◌≡◌, ℕ, ◌+◌, ◌*◌, ◌%◌, ◌<◌, Bool, true, false, cond, eqb, sym, refl, ap, ◌∙◌, ap₂, add_assoc, arith, eq-eqb, ne_eqb}
+use Rattle.std.proofs.Common.{◌≡◌, ℕ, ◌+◌, ◌*◌, ◌%◌, ◌<◌, Bool, true, false, cond, sym, refl, ap, ◌∙◌, ap₂, add_assoc, arith, eq-eqb, ne_eqb}
 use Rattle.amounts.specs.Amounts.{Amounts, Lawful}
 use Rattle.graphs.specs.Counts.{bit}
-use Rattle.graphs.specs.Graphs.{Graph, Bits, SoundGraph, put, without, sum, turns, quarters, graph_sum}
+use Rattle.graphs.specs.Graphs.{Graph, Bits, SoundGraph, put, without, turns, quarters, graph_sum}
 use Rattle.graphs.specs.Rules.{Blind}
 use Rattle.graphs.proofs.Bitwise.{beside, beside_put, turns-put}
 use Rattle.graphs.proofs.Sums.{Within, sum_same, sum-stands, sum_scale, sum_split}

@@ -1,5 +1,5 @@
 -- The pivot's edges by sorts and by three local complementations. Assumes nothing.
-use Rattle.std.proofs.Common.{◌≡◌, ℕ, ◌+◌, ◌*◌, Bool, true, false, cond, not, ◌&&◌, ◌||◌, T, eqb, sym, refl, ap, ◌∙◌, ap₂, arith, ne_eqb}
+use Rattle.std.proofs.Common.{◌≡◌, ℕ, ◌+◌, ◌*◌, Bool, true, false, cond, ◌&&◌, T, sym, refl, ap, ◌∙◌, ap₂, arith, ne_eqb}
 use Rattle.graphs.specs.Counts.{bit}
 use Rattle.graphs.specs.Graphs.{Graph, SoundGraph}
 use Rattle.graphs.specs.Rules.{xor}

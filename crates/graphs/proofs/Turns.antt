@@ -1,5 +1,5 @@
 -- What sums of powers of the eighth turn are, in any lawful system. Assumes nothing.
-use Rattle.std.proofs.Common.{◌≡◌, ℕ, zero, suc, ◌+◌, ◌-◌, ◌*◌, ◌/◌, ◌%◌, ◌<◌, ◌≤◌, ◌⊎◌, sym, refl, ap, ◌∙◌, subst, ap₂, inl, inr, ⊎_elim, arith}
+use Rattle.std.proofs.Common.{◌≡◌, ℕ, zero, suc, ◌+◌, ◌-◌, ◌*◌, ◌/◌, ◌%◌, ◌≤◌, ◌⊎◌, sym, refl, ap, ◌∙◌, subst, ap₂, inl, inr, ⊎_elim, arith}
 use Rattle.amounts.specs.Amounts.{Amounts, Lawful, turned, root_two}
 use Rattle.amounts.proofs.Turns.{add-mul, turned-add, turned_none, opposite, whole-turn, turned_same}
 use Rattle.graphs.specs.Graphs.{quarters, odd_turn}

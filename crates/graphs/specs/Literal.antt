@@ -1,5 +1,5 @@
 -- The term of a graph as a product, factor by factor. Assumes nothing.
-use Rattle.std.specs.Prelude.{◌≡◌, ℕ, zero, suc, Bool, cond, ◌&&◌}
+use Rattle.std.specs.Prelude.{◌≡◌, ℕ, zero, suc, cond, ◌&&◌}
 use Rattle.amounts.specs.Amounts.{Amounts, power, turned, quarter}
 use Rattle.graphs.specs.Graphs.{Graph, Bits, turns, quarters}
 

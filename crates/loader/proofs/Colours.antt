@@ -1,8 +1,7 @@
 -- The colours of the spiders that were given, and one more. Assumes nothing.
-use Rattle.std.proofs.Common.{◌≡◌, ℕ, suc, ◌+◌, ◌<◌, ◌≤◌, min, true, false, eqb, List, [], ◌∷◌, ◌++◌, length, get_or, take, set, sym, refl, ap, ◌∙◌, ap₂, add-one, arith, take-suc-set}
+use Rattle.std.proofs.Common.{◌≡◌, ℕ, ◌+◌, ◌<◌, ◌≤◌, true, false, eqb, List, [], ◌∷◌, ◌++◌, length, get_or, take, set, sym, refl, ap, ◌∙◌, ap₂, add-one, arith, take-suc-set}
 use mathlib.Core.Path.{fun_ext}
 use Rattle.std.proofs.lemmas.List.{length-take-le, get_or-take}
-use Rattle.diagrams.specs.declared.items.Colour.{Colour}
 use Rattle.diagrams.specs.declared.items.Colour.TheVariants.{Z}
 use Rattle.diagrams.specs.declared.items.Spider.{Spider as SpiderData}
 use Rattle.diagrams.specs.declared.items.Kind.TheVariants.{Plain, Hadamard}

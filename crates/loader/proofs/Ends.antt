@@ -1,5 +1,5 @@
 -- The ends of a wire or leg that are given, and what can be done with their slots. Assumes nothing.
-use Rattle.std.proofs.Common.{◌≡◌, ℕ, ◌+◌, ◌*◌, ◌<◌, ◌≤◌, min, max, Bool, true, false, ◌&&◌, ltb, length, get_or, sym, refl, ap, ◌∙◌, subst, ap₂, arith, ltb-true}
+use Rattle.std.proofs.Common.{◌≡◌, ℕ, ◌+◌, ◌*◌, ◌<◌, min, max, true, ◌&&◌, ltb, get_or, sym, refl, ap, ◌∙◌, ap₂, arith, ltb-true}
 use Rattle.diagrams.specs.declared.items.Colour.TheVariants.{Z}
 use Rattle.diagrams.specs.declared.items.Kind.{Kind}
 use Rattle.diagrams.specs.declared.items.Wire.{Wire as WireData}

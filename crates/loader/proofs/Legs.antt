@@ -1,10 +1,10 @@
 -- Legs that are held where they can be. Assumes nothing.
-use Rattle.std.proofs.Common.{◌≡◌, ℕ, ◌+◌, ◌*◌, Bool, true, false, cond, negsuc, sym, refl, ap, ◌∙◌, ap₂, true≢false}
+use Rattle.std.proofs.Common.{◌≡◌, ℕ, ◌+◌, ◌*◌, Bool, true, false, cond, negsuc, sym, refl, ap, ◌∙◌, true≢false}
 use Rattle.graphs.specs.Counts.{bit}
 use Rattle.diagrams.specs.declared.items.Kind.{Kind}
 use Rattle.diagrams.specs.declared.items.Kind.TheVariants.{Plain, Hadamard}
 use Rattle.models.specs.Models.{ModelLeg, Model, spider_limit}
-use Rattle.models.specs.Edits.{placed, can_place, toggled, can_join, scaled, can_scale, product, held, held_if, hold_pays, with_holder}
+use Rattle.models.specs.Edits.{placed, toggled, can_join, scaled, can_scale, held, held_if, hold_pays, with_holder}
 use Rattle.loadings.specs.Loadings.{paid, within}
 use Rattle.loader.specs.Legs.{LegGuards}
 use Rattle.loader.proofs.Multiples.{undone, scaled-scalar}

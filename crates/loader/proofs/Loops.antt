@@ -1,5 +1,5 @@
 -- A loading item by item. Assumes nothing.
-use Rattle.std.proofs.Common.{◌≡◌, ℕ, false, List, [], ◌∷◌, is_err, Some, None, Ok, Err, Option, Result, sym, refl, ap, ◌∙◌, subst, ap₂, true≢false, arith, MatchResult}
+use Rattle.std.proofs.Common.{◌≡◌, ℕ, false, List, [], ◌∷◌, is_err, Some, None, Ok, Err, Result, sym, refl, ap, subst, true≢false, arith, MatchResult}
 use Rattle.refusals.specs.declared.LoadRefusal.{LoadRefusal}
 use Rattle.diagrams.specs.declared.items.Item.{Item}
 use Rattle.diagrams.specs.Streams.{End, finish, broken, Stream, answer, after}

@@ -1,6 +1,6 @@
 -- Scalars that are multiplied and judged. Assumes nothing.
-use Rattle.std.proofs.Common.{◌≡◌, ℕ, Bool, true, false, cond, ℤ, negsuc, sym, refl, ap, ◌∙◌, true≢false}
-use Rattle.models.specs.Models.{Scalar, Model}
+use Rattle.std.proofs.Common.{◌≡◌, ℕ, Bool, true, false, cond, ℤ, refl, ap, ◌∙◌}
+use Rattle.models.specs.Models.{Model}
 use Rattle.models.specs.Edits.{product, scaled, can_scale}
 use Rattle.loadings.specs.Loadings.{within}
 use Rattle.loadings.proofs.Guards.{can_scale-within}

@@ -1,16 +1,13 @@
 -- What each item comes to, by the tests that it passes. Assumes nothing.
-use Rattle.std.proofs.Common.{◌≡◌, ℕ, suc, ◌+◌, ◌<◌, ◌≤◌, min, max, Bool, true, false, cond, ◌&&◌, eqb, ltb, List, [], ◌∷◌, ◌++◌, length, get_or, take, set, Ok, Err, Result, sym, refl, ap, ◌∙◌, subst, arith}
+use Rattle.std.proofs.Common.{◌≡◌, ℕ, min, max, Bool, true, false, cond, ◌&&◌, eqb, ltb, length, Ok, Err, Result, sym, refl, ap, ◌∙◌, subst}
 use Rattle.refusals.specs.declared.LoadRefusal.{LoadRefusal}
 use Rattle.refusals.specs.declared.LoadRefusal.TheVariants.{UnknownSpider, TooManySpiders, TooManyLegs, ScalarOutOfRange}
-use Rattle.diagrams.specs.declared.items.Kind.{Kind}
-use Rattle.diagrams.specs.declared.items.Kind.TheVariants.{Plain, Hadamard}
+use Rattle.diagrams.specs.declared.items.Kind.TheVariants.{Plain}
 use Rattle.diagrams.specs.declared.items.Spider.{Spider as SpiderData}
 use Rattle.diagrams.specs.declared.items.Wire.{Wire as WireData}
 use Rattle.diagrams.specs.declared.items.Leg.{Leg as LegData}
-use Rattle.diagrams.specs.declared.items.Factor.{Factor as FactorData}
-use Rattle.diagrams.specs.declared.items.Item.{Item}
-use Rattle.diagrams.specs.declared.items.Item.TheVariants.{Spider, Wire, Leg, Factor, Zero}
-use Rattle.amplitudes.specs.Items.{wire_kind, leg_kind}
+use Rattle.diagrams.specs.declared.items.Item.TheVariants.{Spider, Wire, Leg}
+use Rattle.amplitudes.specs.Items.{wire_kind}
 use Rattle.models.specs.Models.{Model, spider_limit, leg_limit}
 use Rattle.loadings.specs.Loadings.{Loading, Taken, goes_on, refuses, given, within, judged, taken, with_spider, with_wire, with_one_leg, with_fusion}
 use Rattle.loader.specs.declared.books.Books.{Books}

@@ -3,7 +3,7 @@ use Rattle.std.proofs.Common.{◌≡◌, ℕ, ◌+◌, ◌-◌, ◌<◌, ◌≤�
 use borrow.Author.Tests.{lt-leb}
 use Rattle.std.proofs.lemmas.Bool.Decides.{leb_tells}
 use Rattle.diagrams.specs.Limits.{limit}
-use Rattle.models.specs.Models.{Scalar, nothing, root, ModelLeg, Model, Sound, slots, spider_limit, leg_limit, size, reach, reach_limit}
+use Rattle.models.specs.Models.{Scalar, nothing, root, ModelLeg, Model, slots, spider_limit, leg_limit, size, reach, reach_limit}
 use Rattle.models.specs.Edits.{placed, reserved, can_place, can_join, can_fuse, can_attach, attached, product, scaled, can_scale}
 use Rattle.models.proofs.Counts.{standing_most, standing-placed, open_most, open_attached}
 use Rattle.loadings.specs.Loadings.{Loading, within}

@@ -15,7 +15,7 @@ use Rattle.diagrams.specs.declared.items.Side.{Side}
 use Rattle.diagrams.specs.declared.items.Item.{Item}
 use Rattle.amplitudes.specs.Items.{joint, first_bit, other_bits, term}
 use Rattle.models.specs.Models.{ModelLeg, Model, slots, spider_limit, leg_limit, open_legs, open_count, legs_from, legs_term}
-use Rattle.models.specs.Edits.{placed, gained, only_slot, toggled, attached, held}
+use Rattle.models.specs.Edits.{placed, gained, only_slot, toggled, attached}
 use Rattle.loadings.specs.Loadings.{Loading}
 use Rattle.loadings.proofs.Weights.{weighed}
 use Rattle.loadings.proofs.Gains.{gained-turns}

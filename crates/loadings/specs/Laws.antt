@@ -1,14 +1,14 @@
 -- What loading keeps. Assumes nothing.
 use Rattle.std.specs.Prelude.{◌≡◌, ℕ, ◌+◌, Bool, List, [], ◌∷◌}
 use Rattle.amounts.specs.Scalars.{Same}
-use Rattle.diagrams.specs.Streams.{End, finish, Stream}
+use Rattle.diagrams.specs.Streams.{Stream}
 use Rattle.diagrams.specs.declared.items.Setting.{Setting}
 use Rattle.diagrams.specs.declared.items.Setting.TheVariants.{Open, HeldZero, HeldOne}
 use Rattle.diagrams.specs.declared.items.Item.{Item}
 use Rattle.diagrams.specs.declared.items.Item.TheVariants.{Spider, Wire, Leg, Factor, Zero}
 use Rattle.amplitudes.specs.Items.{amplitude}
 use Rattle.models.specs.Models.{Model, Sound, amount, open_count}
-use Rattle.loadings.specs.Loadings.{Loaded, accepted, loaded}
+use Rattle.loadings.specs.Loadings.{accepted, loaded}
 
 -- how many legs of a list of items are open
 abbrev pub opens : Setting → ℕ

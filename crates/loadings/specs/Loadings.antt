@@ -1,5 +1,5 @@
 -- Loading: which working diagram the items of a stream make, or why they make none. Assumes nothing.
-use Rattle.std.specs.Prelude.{ℕ, ◌+◌, ◌-◌, ◌*◌, ◌^◌, min, max, Bool, true, false, cond, ◌&&◌, List, [], ◌∷◌, ◌++◌, length, ℤ, pos, negsuc, ◌==◌, nat_le, nat_lt, unsigned_abs}
+use Rattle.std.specs.Prelude.{ℕ, ◌+◌, ◌-◌, ◌^◌, min, max, Bool, true, false, cond, ◌&&◌, List, [], ◌∷◌, ◌++◌, length, negsuc, ◌==◌, nat_le, nat_lt, unsigned_abs}
 use Rattle.refusals.specs.declared.LoadRefusal.{LoadRefusal}
 use Rattle.refusals.specs.declared.LoadRefusal.TheVariants.{Unreadable, UnknownSpider, TooManySpiders, TooManyLegs, ScalarOutOfRange}
 use Rattle.diagrams.specs.Limits.{limit}
@@ -10,12 +10,11 @@ use Rattle.diagrams.specs.declared.items.Kind.TheVariants.{Plain, Hadamard}
 use Rattle.diagrams.specs.declared.items.Setting.{Setting}
 use Rattle.diagrams.specs.declared.items.Setting.TheVariants.{Open, HeldZero, HeldOne}
 use Rattle.diagrams.specs.declared.items.Spider.{Spider as SpiderData}
-use Rattle.diagrams.specs.declared.items.Wire.{Wire as WireData}
 use Rattle.diagrams.specs.declared.items.Leg.{Leg as LegData}
 use Rattle.diagrams.specs.declared.items.Item.{Item}
 use Rattle.diagrams.specs.declared.items.Item.TheVariants.{Spider, Wire, Leg, Factor, Zero}
 use Rattle.amplitudes.specs.Items.{wire_kind, leg_kind}
-use Rattle.models.specs.Models.{Scalar, nothing, root, ModelLeg, Model, slots, spider_limit, leg_limit}
+use Rattle.models.specs.Models.{Scalar, nothing, root, Model, spider_limit, leg_limit}
 use Rattle.models.specs.Edits.{blank, placed, gained, only_slot, toggled, scaled, zeroed, fused, attached, held}
 
 -- what is known after some items: the diagram so far, the colours of the spiders in order, the slot in which

@@ -8,7 +8,7 @@ use Rattle.std.specs.List.{range_with_len, AllByRecursion}
 use Rattle.std.proofs.lemmas.List.{get_or-set_same, get_or-set_other}
 use Rattle.amounts.specs.Amounts.{Amounts, Lawful}
 use Rattle.amounts.proofs.Integers.{sums}
-use Rattle.graphs.specs.Graphs.{Bits, sum}
+use Rattle.graphs.specs.Graphs.{Bits}
 use Rattle.graphs.proofs.Sums.{sum_same}
 use Rattle.diagrams.specs.Streams.{finish}
 use Rattle.diagrams.specs.declared.items.Colour.{Colour}

@@ -25,7 +25,7 @@ use Rattle.circuits.specs.declared.gates.Single.{Single}
 use Rattle.circuits.specs.declared.gates.Gate.{Gate}
 use Rattle.circuits.specs.declared.gates.Gate.TheVariants.{One, Two}
 use Rattle.circuits.specs.declared.wiring.Wiring.{Wiring}
-use Rattle.circuits.specs.Gates.{single_spider, last_of, wired, fresh, opening, circuit_items}
+use Rattle.circuits.specs.Gates.{single_spider, last_of, wired, fresh, circuit_items}
 use Rattle.circuits.specs.Spelling.{Valid}
 use Rattle.circuits.proofs.Accepting.{accepted_spells}
 use Rattle.circuits.proofs.Spelling.{spelled_reads}

@@ -1,5 +1,5 @@
 -- Changes of a working diagram, and when each can be made. Assumes nothing.
-use Rattle.std.specs.Prelude.{◌≡◌, ℕ, ◌+◌, ◌-◌, ◌*◌, ◌%◌, Bool, true, false, cond, not, ◌&&◌, ◌||◌, ℤ, pos, negsuc, ◌+ℤ◌, is_some, Some, None, Option, ◌==◌, nat_le, nat_lt}
+use Rattle.std.specs.Prelude.{ℕ, ◌+◌, ◌-◌, ◌*◌, ◌%◌, Bool, true, false, cond, not, ◌&&◌, ◌||◌, ℤ, pos, negsuc, ◌+ℤ◌, is_some, Some, None, Option, ◌==◌, nat_le, nat_lt}
 use Rattle.graphs.specs.Counts.{bit}
 use Rattle.graphs.specs.Graphs.{Graph, without, put}
 use Rattle.graphs.specs.Rules.{xor}

@@ -1,5 +1,5 @@
 -- The calls that make a local complementation make what the rule says. Assumes nothing.
-use Rattle.std.proofs.Common.{◌≡◌, ℕ, ◌+◌, ◌-◌, ◌*◌, ◌%◌, ◌<◌, Bool, true, false, cond, not, ◌&&◌, ◌||◌, eqb, ◌⊎◌, pos, sym, refl, ap, ◌∙◌, ap₂, ⊎_elim, arith, eqb-true}
+use Rattle.std.proofs.Common.{◌≡◌, ℕ, ◌+◌, ◌-◌, ◌*◌, ◌%◌, Bool, true, false, cond, not, ◌&&◌, ◌||◌, eqb, pos, sym, refl, ap, ◌∙◌, ap₂, ⊎_elim, arith, eqb-true}
 use Rattle.graphs.specs.Counts.{bit}
 use Rattle.graphs.specs.Graphs.{odd_turn}
 use Rattle.graphs.specs.Rules.{xor}

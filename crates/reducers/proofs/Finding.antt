@@ -1,6 +1,6 @@
 -- What is found in a set of slots, and what a rule's scalar leaves in reach. Assumes nothing.
-use Rattle.std.proofs.Common.{◌≡◌, ℕ, ◌+◌, ◌<◌, ◌≤◌, Bool, true, false, cond, ℤ, Some, None, Option, sym, refl, ap, ◌∙◌, subst, arith, le-leb}
-use Rattle.models.specs.Models.{Model, Sound, slots, reach, reach_limit}
+use Rattle.std.proofs.Common.{◌≡◌, ℕ, ◌<◌, ◌≤◌, Bool, true, false, cond, ℤ, Some, None, sym, ap, ◌∙◌, subst, arith, le-leb}
+use Rattle.models.specs.Models.{Model, Sound, reach, reach_limit}
 use Rattle.models.specs.Edits.{scaled, can_scale}
 use Rattle.reductions.specs.Runs.{first_from}
 use Rattle.reductions.proofs.Runs.{first_is, first_absent}

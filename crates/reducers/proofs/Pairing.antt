@@ -1,5 +1,5 @@
 -- At which slots a pivot fits, told by the even interior slots beside the first. Assumes nothing.
-use Rattle.std.proofs.Common.{◌≡◌, ℕ, ◌+◌, ◌<◌, ◌≤◌, Bool, true, false, cond, not, ◌&&◌, ltb, is_some, Some, None, Option, sym, refl, ap, ◌∙◌, ap₂, arith, lt-ltb, MatchOption}
+use Rattle.std.proofs.Common.{◌≡◌, ℕ, ◌<◌, ◌≤◌, Bool, true, false, not, ◌&&◌, ltb, is_some, Some, None, Option, sym, refl, ap, ◌∙◌, ap₂, arith, lt-ltb, MatchOption}
 use borrow.Author.Tests.{clash}
 use Rattle.models.specs.Models.{Model, slots}
 use Rattle.reductions.specs.Rules.{interior, odd, pivot_fits}

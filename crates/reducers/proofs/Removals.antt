@@ -1,6 +1,6 @@
 -- The calls that remove a spider make what the rule says. Assumes nothing.
-use Rattle.std.proofs.Common.{◌≡◌, ℕ, ◌<◌, Bool, true, false, cond, not, ◌&&◌, ◌||◌, eqb, pos, Decides, sym, refl, ap, ◌∙◌, ap₂, arith, eq-eqb, ne_eqb, eqb-true}
-use borrow.Author.Tests.{both_ways, clash}
+use Rattle.std.proofs.Common.{◌≡◌, ℕ, ◌<◌, Bool, true, false, cond, not, ◌&&◌, ◌||◌, eqb, pos, Decides, sym, refl, ap, ◌∙◌, eq-eqb, ne_eqb, eqb-true}
+use borrow.Author.Tests.{clash}
 use Rattle.graphs.specs.Counts.{bit, total}
 use Rattle.graphs.proofs.Counting.{total-nothing}
 use Rattle.models.specs.Models.{Model, Sound, nothing, slots, carries}

@@ -1,5 +1,5 @@
 -- The amplitude of a working diagram at a row, as it is answered, and why the answer is right. Assumes nothing.
-use Rattle.std.specs.Prelude.{◌≡◌, ℕ, zero, suc, ◌+◌, ◌≤◌, Bool, ◌↔◌, List, Some, None, Option}
+use Rattle.std.specs.Prelude.{◌≡◌, ℕ, zero, suc, ◌+◌, ◌≤◌, Bool, ◌↔◌, List, Some, None}
 use Rattle.amounts.specs.Eighths.{none, unit}
 use Rattle.amounts.specs.Scalars.{Same}
 use Rattle.amplitudes.specs.Items.{first_bit, other_bits}

@@ -1,5 +1,5 @@
 -- What every rule keeps, at every spot where it fits. Assumes nothing.
-use Rattle.std.specs.Prelude.{◌≡◌, ℕ, ◌-◌, ◌*◌, ◌<◌, ◌≤◌, Bool, true, List, ℤ, ◌-ℤ◌, Some, None, Option, unsigned_abs}
+use Rattle.std.specs.Prelude.{◌≡◌, ℕ, ◌-◌, ◌*◌, ◌<◌, ◌≤◌, Bool, true, List, ◌-ℤ◌, Some, None, Option, unsigned_abs}
 use Rattle.amounts.specs.Scalars.{Same}
 use Rattle.diagrams.specs.declared.items.Side.{Side}
 use Rattle.models.specs.Models.{Scalar, nothing, root, ModelLeg, Model, Sound, amount, standing}

@@ -1,5 +1,5 @@
 -- The three rules on a working diagram: at which spots each fits, and what it makes there. Assumes nothing.
-use Rattle.std.specs.Prelude.{ℕ, ◌+◌, ◌-◌, ◌*◌, ◌%◌, Bool, true, false, cond, not, ◌&&◌, ◌||◌, pos, ◌==◌, nat_lt}
+use Rattle.std.specs.Prelude.{ℕ, ◌+◌, ◌-◌, ◌*◌, ◌%◌, Bool, false, cond, not, ◌&&◌, ◌||◌, pos, ◌==◌, nat_lt}
 use Rattle.graphs.specs.Counts.{bit, total}
 use Rattle.graphs.specs.Graphs.{without, odd_turn}
 use Rattle.graphs.specs.Rules.{xor}

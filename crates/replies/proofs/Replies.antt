@@ -1,5 +1,5 @@
 -- What is said of a deposit, by how its loading and its question end. Assumes nothing.
-use Rattle.std.proofs.Common.{◌≡◌, ℕ, ◌≤◌, Bool, true, false, List, length, Ok, Err, Result, sym, refl, ap, ◌∙◌, subst, arith, le-ltb}
+use Rattle.std.proofs.Common.{◌≡◌, ℕ, ◌≤◌, Bool, true, false, List, length, Ok, Err, Result, sym, ap, ◌∙◌, subst, arith, le-ltb}
 use Rattle.refusals.specs.declared.LoadRefusal.{LoadRefusal}
 use Rattle.refusals.specs.declared.AskRefusal.{AskRefusal}
 use Rattle.amounts.specs.Eighths.{unit}
@@ -7,7 +7,7 @@ use Rattle.amounts.specs.Scalars.{Same}
 use Rattle.amounts.proofs.Scalars.{same_equivalence}
 use Rattle.amplitudes.specs.Items.{amplitude}
 use Rattle.circuits.specs.Circuits.{circuit}
-use Rattle.matrices.specs.Matrices.{row_of, gates_amplitude}
+use Rattle.matrices.specs.Matrices.{gates_amplitude}
 use Rattle.matrices.proofs.Whole.{texts_are_matrices}
 use Rattle.models.specs.Models.{Model, amount, scaled_by}
 use Rattle.loadings.specs.Loadings.{Loaded, accepted, refused, loaded}
@@ -17,7 +17,7 @@ use Rattle.reductions.specs.Answers.{Answer as Answered, Right}
 use Rattle.reductions.proofs.Told.{zero_told}
 use Rattle.archive.specs.Questions.{asked, bits}
 use Rattle.replies.specs.Input.{row_bytes, line_of, circuit_of}
-use Rattle.replies.specs.Reports.{Reply, too_long, answers, unloaded, unasked, input_limit, question, replied, reply}
+use Rattle.replies.specs.Reports.{Reply, too_long, unloaded, input_limit, question, replied, reply}
 use Rattle.replies.specs.Laws.{CircuitAnswered}
 
 abbrev sized : Reply → Bool → Reply

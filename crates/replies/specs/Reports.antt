@@ -7,7 +7,6 @@ use Rattle.refusals.specs.declared.Layer.{Layer}
 use Rattle.refusals.specs.Refusals.{load_number, load_place, load_layer, ask_number, ask_place, ask_layer, layer_word}
 use Rattle.circuits.specs.Circuits.{circuit}
 use Rattle.loadings.specs.Loadings.{Loaded, accepted, refused, loaded}
-use Rattle.models.specs.Models.{nothing, root}
 use Rattle.reductions.specs.Answers.{Answer as Answered}
 use Rattle.archive.specs.Questions.{asked, answer_is}
 use Rattle.parts.specs.declared.scalar.Scalar.{Scalar}

@@ -1,5 +1,5 @@
 -- How many bits of words are set. Assumes nothing.
-use Rattle.std.proofs.Common.{◌≡◌, ℕ, zero, suc, ◌+◌, ◌*◌, ◌/◌, ◌%◌, ◌^◌, ◌<◌, ◌≤◌, Bool, true, false, eqb, List, get_or, sym, refl, ap, ◌∙◌, arith, pow-add}
+use Rattle.std.proofs.Common.{◌≡◌, ℕ, zero, suc, ◌+◌, ◌*◌, ◌/◌, ◌%◌, ◌^◌, ◌<◌, eqb, List, get_or, refl, ap, ◌∙◌, arith, pow-add}
 use lib.Count.{ones, ones_step, ones-ones}
 use Rattle.graphs.specs.Counts.{bit, total}
 use Rattle.graphs.proofs.Counting.{total-same}

@@ -1,10 +1,9 @@
 -- Runs put together out of steps. Assumes nothing.
-use Rattle.std.proofs.Common.{◌≡◌, ℕ, zero, suc, ◌+◌, ◌-◌, ◌<◌, ◌≤◌, Bool, true, false, not, List, is_some, Some, None, Option, sym, refl, ap, ◌∙◌, arith}
-use Rattle.amounts.specs.Scalars.{Same}
+use Rattle.std.proofs.Common.{◌≡◌, ℕ, zero, suc, ◌+◌, ◌-◌, ◌<◌, ◌≤◌, true, false, not, is_some, Some, None, Option, ap, ◌∙◌, arith}
 use Rattle.amounts.proofs.Scalars.{same_equivalence}
-use Rattle.models.specs.Models.{Model, Sound, amount, standing}
+use Rattle.models.specs.Models.{Model, amount}
 use Rattle.reductions.specs.Kept.{Kept}
-use Rattle.reductions.specs.Runs.{Run, one_more, ran}
+use Rattle.reductions.specs.Runs.{Run, ran}
 use Rattle.reductions.proofs.Runs.{ran-none, ran-more, ran_spent}
 use Rattle.rules.specs.Steps.{next_by, KeptByRun}
 

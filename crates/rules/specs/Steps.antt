@@ -1,5 +1,5 @@
 -- What a step and a run by a rule make. Assumes nothing.
-use Rattle.std.specs.Prelude.{◌≡◌, ℕ, ◌+◌, ◌≤◌, Bool, true, false, List, Some, None, Option}
+use Rattle.std.specs.Prelude.{◌≡◌, ℕ, ◌+◌, ◌≤◌, Bool, List, Some, None, Option}
 use Rattle.amounts.specs.Scalars.{Same}
 use Rattle.models.specs.Models.{Model, amount, standing}
 use Rattle.reductions.specs.Kept.{side_of}

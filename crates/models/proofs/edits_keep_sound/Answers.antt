@@ -1,4 +1,3 @@
-use Rattle.models.proofs.Stays.{standing-gained}
 use Rattle.models.proofs.Toggles.{gained-sound, toggled-sound, complemented_around-sound, crossed-sound}
 use Rattle.models.proofs.Keeps.{blank-sound, placed-sound, removed-sound, scaled-sound, zeroed-sound, attached-sound, detached-sound}
 use Rattle.models.proofs.Fuses.{fused-sound}

@@ -1,4 +1,4 @@
-use Rattle.std.proofs.Common.{◌≡◌, eqb, length, sym, ap}
+use Rattle.std.proofs.Common.{eqb, length, sym, ap}
 use borrow.Author.Tests.{false-ltb}
 use Rattle.std.proofs.lemmas.List.{get_or_past}
 use Rattle.archive.proofs.answer.bit_at.Goals as goal

@@ -1,5 +1,4 @@
-use Rattle.std.proofs.Common.{◌≡◌, is_some, Some, None, sym, ap, ◌∙◌}
-use Rattle.models.specs.Models.{Model}
+use Rattle.std.proofs.Common.{◌≡◌, is_some, Some, sym, ap, ◌∙◌}
 use Rattle.models.specs.Edits.{held_if, detached}
 use Rattle.reductions.proofs.Held.{held_if_is}
 use Rattle.reductions.proofs.Closing.{leg_holdable}

@@ -1,5 +1,4 @@
-use Rattle.std.proofs.Common.{◌≡◌, suc, ◌+◌, ◌-◌, ◌<◌, ◌≤◌, eqb, get_or, drop, is_some, sym, ap, ◌∙◌, add-one, arith}
-use Rattle.graphs.specs.Counts.{bit}
+use Rattle.std.proofs.Common.{◌≡◌, suc, ◌+◌, ◌-◌, drop, is_some, sym, ap, ◌∙◌, add-one, arith}
 use Rattle.graphs.proofs.Sets.{bit_most}
 use Rattle.reductions.specs.Answers.{closed_from}
 use Rattle.graphlike.specs.Diagrams.{model}

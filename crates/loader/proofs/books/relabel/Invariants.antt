@@ -1,4 +1,4 @@
-use Rattle.std.proofs.Common.{◌≡◌, ℕ, ◌<◌, cond, eqb, ltb, length, get_or}
+use Rattle.std.proofs.Common.{◌≡◌, ℕ, cond, eqb, ltb, length, get_or}
 use Rattle.loader.proofs.books.relabel.Given as goal
 
 abbrev pub invariant-loop-spider : goal.invariant-loop-spider

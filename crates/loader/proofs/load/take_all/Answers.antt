@@ -1,8 +1,7 @@
-use Rattle.std.proofs.Common.{◌≡◌, List, [], ◌∷◌, Ok, sym, refl, ap, ◌∙◌, subst, ap₂}
+use Rattle.std.proofs.Common.{◌≡◌, List, Ok, sym, ap, ◌∙◌, subst}
 use Rattle.diagrams.specs.declared.items.Item.{Item}
-use Rattle.diagrams.specs.Streams.{End, finish, after}
-use Rattle.models.specs.Edits.{blank}
-use Rattle.loadings.specs.Loadings.{Loading, beginning, loaded, loaded_from, taken}
+use Rattle.diagrams.specs.Streams.{after}
+use Rattle.loadings.specs.Loadings.{Loading, beginning, loaded_from, taken}
 use Rattle.loadings.specs.Goods.{Good}
 use Rattle.loadings.proofs.Goods.{good_beginning}
 use Rattle.loadings.proofs.Taken.{good_taken}

@@ -1,4 +1,4 @@
-use Rattle.std.proofs.Common.{◌≡◌, ◌-◌, ◌%◌, pos, sym, refl, ap, ◌∙◌}
+use Rattle.std.proofs.Common.{◌≡◌, ◌-◌, ◌%◌, pos, ap, ◌∙◌}
 use Rattle.graphs.specs.Graphs.{odd_turn}
 use Rattle.rows.specs.Rows.{has}
 use Rattle.models.specs.Models.{Model}

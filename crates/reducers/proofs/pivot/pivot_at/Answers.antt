@@ -1,4 +1,4 @@
-use Rattle.std.proofs.Common.{◌≡◌, ◌*◌, ◌%◌, true, pos, sym, refl, ap, ◌∙◌}
+use Rattle.std.proofs.Common.{◌≡◌, ◌*◌, ◌%◌, pos, ap, ◌∙◌}
 use Rattle.rows.specs.Rows.{has}
 use Rattle.models.specs.Models.{Model}
 use Rattle.models.specs.Edits.{can_remove, removed, gained, crossed, scaled, can_scale}

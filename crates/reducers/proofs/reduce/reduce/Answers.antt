@@ -1,4 +1,4 @@
-use Rattle.std.proofs.Common.{◌≡◌, ap, ◌∙◌}
+use Rattle.std.proofs.Common.{ap, ◌∙◌}
 use Rattle.graphlike.specs.Diagrams.{model}
 use Rattle.reducers.proofs.Order.{three_reduce}
 use Rattle.reducers.proofs.reduce.reduce.Goals as goal

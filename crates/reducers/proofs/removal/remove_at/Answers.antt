@@ -1,5 +1,4 @@
-use Rattle.std.proofs.Common.{◌≡◌, ℕ, true, pos, sym, refl, ap, ◌∙◌, subst}
-use Rattle.models.specs.Models.{Model}
+use Rattle.std.proofs.Common.{◌≡◌, pos, sym, ap, ◌∙◌}
 use Rattle.models.specs.Edits.{removed, scaled, can_scale, zeroed}
 use Rattle.graphlike.specs.Diagrams.{model}
 use Rattle.graphlike.proofs.Sounds.{sound}

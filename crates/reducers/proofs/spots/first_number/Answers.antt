@@ -1,4 +1,4 @@
-use Rattle.std.proofs.Common.{◌≡◌, Some, sym, ap, ◌∙◌, subst}
+use Rattle.std.proofs.Common.{Some, ap, ◌∙◌}
 use Rattle.rows.specs.Rows.{has}
 use Rattle.reducers.proofs.Finding.{lowest_is, absent_is}
 use Rattle.reducers.proofs.spots.first_number.Goals as goal

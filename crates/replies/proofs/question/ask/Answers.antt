@@ -1,4 +1,4 @@
-use Rattle.std.proofs.Common.{◌≡◌, ℕ, ◌<◌, ◌≤◌, length, get_or, arith, rules}
+use Rattle.std.proofs.Common.{◌≡◌, ℕ, ◌<◌, length, get_or, arith, rules}
 use Rattle.graphlike.specs.Diagrams.{model}
 use Rattle.replies.specs.Input.{row_byte}
 use Rattle.replies.proofs.Rows.{cut_value, cut_right}

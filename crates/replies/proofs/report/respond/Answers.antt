@@ -1,4 +1,4 @@
-use Rattle.std.proofs.Common.{◌≡◌, ℕ, List, Ok, Err, sym, ap, ◌∙◌, subst, arith}
+use Rattle.std.proofs.Common.{ℕ, List, Ok, sym, ap, ◌∙◌, subst, arith}
 use Rattle.diagrams.specs.Streams.{Stream}
 use Rattle.circuits.specs.Circuits.{circuit}
 use Rattle.loadings.specs.Loadings.{loaded}

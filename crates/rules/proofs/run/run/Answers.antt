@@ -1,10 +1,9 @@
-use Rattle.std.proofs.Common.{◌≡◌, ◌+◌, ◌<◌, ◌≤◌, true, cond, Some, None, Option, sym, refl, ap, ◌∙◌, subst, arith}
-use Rattle.models.specs.Models.{Model, standing}
+use Rattle.std.proofs.Common.{◌≡◌, cond, Some, sym, ap, ◌∙◌, subst, arith}
+use Rattle.models.specs.Models.{Model}
 use Rattle.reductions.specs.Kept.{Kept}
-use Rattle.reductions.specs.Runs.{ran}
 use Rattle.graphlike.specs.Diagrams.{model}
 use Rattle.graphlike.proofs.Sounds.{sound}
-use Rattle.rules.specs.Steps.{next_by, KeptByRun}
+use Rattle.rules.specs.Steps.{next_by}
 use Rattle.rules.proofs.Chains.{chain_more, chain_spent, chain_done, kept_more, next_some, next_none}
 use Rattle.rules.proofs.run.run.Given as given
 use Rattle.rules.proofs.run.run.Goals as goal

@@ -3,7 +3,7 @@ use Rattle.diagrams.specs.Streams.{Stream}
 use Rattle.circuits.specs.declared.text.CircuitText.{CircuitText}
 use Rattle.circuits.specs.declared.text.Part.{Part}
 use Rattle.circuits.specs.Circuits.{remaining, scripted, gates_from}
-use Rattle.circuits.specs.Sources.{still, Went}
+use Rattle.circuits.specs.Sources.{Went}
 use Rattle.circuits.proofs.Readings.{all_taken}
 use Rattle.circuits.proofs.text.CircuitText.advance.Goals as goal
 

@@ -1,4 +1,4 @@
-use Rattle.std.proofs.Common.{◌≡◌, refl}
+use Rattle.std.proofs.Common.{refl}
 use Rattle.circuits.specs.Circuits.{reading}
 use Rattle.circuits.proofs.Spelling.{spelled_reads}
 use Rattle.circuits.proofs.Accepting.{accepted_spells}

@@ -1,4 +1,4 @@
-use Rattle.std.proofs.Common.{pos, refl, ap}
+use Rattle.std.proofs.Common.{pos, ap}
 use Rattle.models.specs.Models.{root}
 use Rattle.models.specs.Edits.{blank}
 use Rattle.graphlike.proofs.Shapes.{same-model}

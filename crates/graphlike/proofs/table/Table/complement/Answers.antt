@@ -1,4 +1,4 @@
-use Rattle.std.proofs.Common.{not, ◌&&◌, eqb, refl, ap, ◌∙◌, ap₂}
+use Rattle.std.proofs.Common.{not, ◌&&◌, eqb, refl, ◌∙◌, ap₂}
 use Rattle.graphs.specs.Rules.{xor}
 use Rattle.models.specs.Edits.{complemented_around}
 use Rattle.links.specs.Links.{linked}

@@ -1,4 +1,4 @@
-use Rattle.std.proofs.Common.{◌≡◌, ℕ, ◌+◌, ◌*◌, ◌%◌, Bool, false, cond, ◌&&◌, eqb, sym, refl, ap, ◌∙◌, ap₂, arith}
+use Rattle.std.proofs.Common.{◌≡◌, ℕ, ◌+◌, ◌*◌, ◌%◌, false, cond, ◌&&◌, eqb, refl, ap, ◌∙◌, ap₂, arith}
 use Rattle.graphs.specs.Counts.{bit}
 use Rattle.graphs.specs.Rules.{xor}
 use Rattle.models.specs.Edits.{fused}

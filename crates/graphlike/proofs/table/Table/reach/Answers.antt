@@ -1,4 +1,4 @@
-use Rattle.std.proofs.Common.{◌<◌, ◌≤◌, arith, rules}
+use Rattle.std.proofs.Common.{arith, rules}
 use Rattle.rows.specs.Rows.{has}
 use Rattle.graphs.proofs.Sets.{total_most}
 use Rattle.graphlike.proofs.table.Table.reach.Goals as goal

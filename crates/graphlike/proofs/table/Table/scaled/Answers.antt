@@ -1,4 +1,4 @@
-use Rattle.std.proofs.Common.{◌≡◌, ◌<◌, ◌≤◌, ℤ, subst, arith, w32}
+use Rattle.std.proofs.Common.{◌≡◌, ◌<◌, ℤ, subst, w32}
 use Rattle.std.proofs.lemmas.Int.{to_z-of_z}
 use Rattle.models.specs.Models.{size, reach_limit}
 use Rattle.models.specs.Edits.{product}

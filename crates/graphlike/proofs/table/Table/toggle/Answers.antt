@@ -1,4 +1,4 @@
-use Rattle.std.proofs.Common.{◌≡◌, Bool, true, false, ◌&&◌, ◌||◌, eqb, refl, ap, ◌∙◌}
+use Rattle.std.proofs.Common.{refl, ap, ◌∙◌}
 use Rattle.graphs.specs.Rules.{xor}
 use Rattle.models.specs.Edits.{toggled}
 use Rattle.links.specs.Links.{linked}

@@ -1,4 +1,4 @@
-use Rattle.std.proofs.Common.{◌≡◌, ◌<◌, ◌&&◌, eqb, length, ap, ◌∙◌, rules}
+use Rattle.std.proofs.Common.{◌<◌, ◌&&◌, eqb, length, ap, ◌∙◌, rules}
 use Rattle.graphs.specs.Rules.{xor}
 use Rattle.rows.specs.Rows.{has}
 use Rattle.links.specs.Links.{linked}

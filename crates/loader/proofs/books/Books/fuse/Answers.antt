@@ -1,4 +1,4 @@
-use Rattle.std.proofs.Common.{◌≡◌, ℕ, ◌%◌, ◌<◌, min, max, true, false, cond, sym, refl, ap, ◌∙◌, subst, ap₂, true≢false, arith, eq-eqb, ne_eqb}
+use Rattle.std.proofs.Common.{◌≡◌, ℕ, min, max, true, sym, ◌∙◌, ap₂, true≢false, arith, eq-eqb, ne_eqb}
 use Rattle.models.specs.Edits.{fused, can_fuse}
 use Rattle.loadings.specs.Loadings.{placed_again}
 use Rattle.graphlike.specs.Diagrams.{model}

@@ -1,4 +1,4 @@
-use Rattle.std.proofs.Common.{◌≡◌, [], refl, arith}
+use Rattle.std.proofs.Common.{[], refl, arith}
 use mathlib.Core.Path.{fun_ext}
 use Rattle.models.specs.Edits.{blank}
 use Rattle.loader.specs.Books.{loading_of}

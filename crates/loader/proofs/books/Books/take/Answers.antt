@@ -1,4 +1,4 @@
-use Rattle.std.proofs.Common.{Ok, sym, refl, ap}
+use Rattle.std.proofs.Common.{Ok, refl, ap}
 use Rattle.diagrams.specs.declared.items.Item.{Item}
 use Rattle.models.specs.Edits.{zeroed}
 use Rattle.loadings.specs.Loadings.{taken, goes_on, with_model}

@@ -1,11 +1,11 @@
-use Rattle.std.proofs.Common.{◌≡◌, ℤ, sym, ap, ◌∙◌, w32, SFits, rules}
+use Rattle.std.proofs.Common.{ℤ, sym, ap, ◌∙◌, w32, SFits, rules}
 use Rattle.std.proofs.lemmas.Int.{to_z-of_z}
 use Rattle.models.specs.Edits.{product, scaled}
 use Rattle.loadings.specs.Loadings.{within, with_model}
 use Rattle.graphlike.specs.Diagrams.{model}
 use Rattle.loader.specs.Books.{loading_of}
 use Rattle.loader.proofs.Taking.{judged_comes}
-use Rattle.loader.proofs.Colours.{changed, model-given}
+use Rattle.loader.proofs.Colours.{changed}
 use Rattle.loader.proofs.Multiples.{scaled-scalar}
 use Rattle.loader.proofs.books.Books.take_factor.Goals as goal
 

@@ -1,4 +1,4 @@
-use Rattle.std.proofs.Common.{◌≡◌, ◌%◌, ◌<◌, ◌≤◌, true, length, sym, refl, ap, ◌∙◌, arith, length-set, le-ltb, lt-ltb}
+use Rattle.std.proofs.Common.{◌≡◌, true, length, sym, refl, ap, ◌∙◌, arith, length-set, le-ltb, lt-ltb}
 use Rattle.models.specs.Models.{spider_limit}
 use Rattle.models.specs.Edits.{placed, can_place}
 use Rattle.graphlike.specs.Diagrams.{model}

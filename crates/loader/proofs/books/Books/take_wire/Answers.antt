@@ -1,4 +1,4 @@
-use Rattle.std.proofs.Common.{◌≡◌, ◌<◌, ◌≤◌, true, false, ◌&&◌, ltb, length, sym, refl, ap, ◌∙◌, subst, ap₂, arith}
+use Rattle.std.proofs.Common.{◌≡◌, true, ◌&&◌, ltb, sym, refl, ap, ◌∙◌, arith}
 use Rattle.diagrams.specs.declared.items.Kind.TheVariants.{Plain, Hadamard}
 use Rattle.amplitudes.specs.Items.{wire_kind}
 use Rattle.models.specs.Models.{Model}

@@ -1,7 +1,7 @@
-use Rattle.std.proofs.Common.{◌≡◌, true, false, cond, ℤ, sym, ap, ◌∙◌, subst, true≢false, w32}
+use Rattle.std.proofs.Common.{◌≡◌, cond, ℤ, sym, ap, ◌∙◌, subst, true≢false, w32}
 use Rattle.std.proofs.lemmas.Int.{to_z-of_z}
 use Rattle.models.specs.Models.{Model}
-use Rattle.models.specs.Edits.{product, scaled, can_scale}
+use Rattle.models.specs.Edits.{scaled, can_scale}
 use Rattle.loadings.specs.Loadings.{within}
 use Rattle.graphlike.specs.Diagrams.{model}
 use Rattle.loader.proofs.Multiples.{scaled-scalar, when_done, undone}

@@ -1,4 +1,4 @@
-use Rattle.std.proofs.Common.{◌≡◌, negsuc, sym, ap, ◌∙◌}
+use Rattle.std.proofs.Common.{negsuc, sym, ap, ◌∙◌}
 use Rattle.models.specs.Edits.{product, scaled}
 use Rattle.loadings.specs.Loadings.{within, paid}
 use Rattle.graphlike.specs.Diagrams.{model}

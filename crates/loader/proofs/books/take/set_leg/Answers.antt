@@ -1,4 +1,4 @@
-use Rattle.std.proofs.Common.{◌≡◌, true, false, sym, ap, ◌∙◌}
+use Rattle.std.proofs.Common.{true, false, sym, ap, ◌∙◌}
 use Rattle.diagrams.specs.declared.items.Setting.{Setting}
 use Rattle.loadings.specs.Loadings.{within}
 use Rattle.parts.specs.Tables.{open_leg}

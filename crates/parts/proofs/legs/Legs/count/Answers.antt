@@ -1,4 +1,4 @@
-use Rattle.std.proofs.Common.{◌≡◌, ◌≤◌, arith}
+use Rattle.std.proofs.Common.{arith}
 use Rattle.models.proofs.Counts.{legs_most}
 use Rattle.parts.specs.Tables.{leg_in}
 use Rattle.parts.proofs.legs.Legs.count.Goals as goal

@@ -1,4 +1,4 @@
-use Rattle.std.proofs.Common.{◌≡◌, ◌<◌, length, get_or, Some, None, ap, ◌∙◌, rules}
+use Rattle.std.proofs.Common.{◌<◌, length, get_or, None, ap, ◌∙◌, rules}
 use Rattle.std.proofs.lemmas.List.{get_or_default}
 use Rattle.parts.specs.Tables.{maybe_leg, leg_in}
 use Rattle.parts.proofs.legs.Legs.get.Goals as goal

@@ -1,4 +1,4 @@
-use Rattle.std.proofs.Common.{◌≡◌, length, sym, ap, ◌∙◌}
+use Rattle.std.proofs.Common.{length, sym, ap, ◌∙◌}
 use Rattle.models.specs.Edits.{led}
 use Rattle.models.proofs.Counts.{legs-led, legs-same}
 use Rattle.parts.specs.Tables.{leg_in}

@@ -1,4 +1,4 @@
-use Rattle.std.proofs.Common.{◌≡◌, length, replicate, Some, None, sym, ap}
+use Rattle.std.proofs.Common.{length, replicate, None, sym, ap}
 use Rattle.parts.specs.Tables.{leg_in}
 use Rattle.parts.proofs.Tables.{no_legs, none-listed}
 use Rattle.parts.proofs.legs.Legs.none.Goals as goal

@@ -1,4 +1,4 @@
-use Rattle.std.proofs.Common.{◌≡◌, ◌≤◌, cond, is_some, sym, refl, ap, ◌∙◌, arith, rules, eq-eqb, ne_eqb}
+use Rattle.std.proofs.Common.{◌≡◌, cond, is_some, sym, refl, ap, ◌∙◌, arith, eq-eqb, ne_eqb}
 use Rattle.graphs.specs.Counts.{bit}
 use Rattle.models.proofs.Counts.{legs_most}
 use Rattle.parts.specs.Tables.{maybe_leg, leg_in, opened}

@@ -1,7 +1,6 @@
-use Rattle.std.proofs.Common.{◌≡◌, ℕ, ◌<◌, cond, ltb, length, refl, subst, arith}
+use Rattle.std.proofs.Common.{refl, arith}
 use Rattle.std.proofs.lemmas.List.{length-set}
 use Rattle.models.specs.Edits.{led}
-use Rattle.parts.specs.Tables.{leg_in}
 use Rattle.parts.proofs.Tables.{changed-more, changed_all}
 use Rattle.parts.proofs.legs.methods.lead_all.Goals as goal
 

@@ -1,4 +1,4 @@
-use Rattle.std.proofs.Common.{◌≡◌, ◌<◌, cond, eqb, length, ap, ◌∙◌, rules}
+use Rattle.std.proofs.Common.{◌<◌, cond, eqb, length, ap, ◌∙◌, rules}
 use Rattle.parts.specs.Tables.{maybe_leg, leg_in}
 use Rattle.parts.proofs.Tables.{leg_written}
 use Rattle.parts.proofs.legs.methods.replaced.Goals as goal

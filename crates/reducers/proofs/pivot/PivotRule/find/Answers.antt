@@ -1,4 +1,4 @@
-use Rattle.std.proofs.Common.{◌≡◌, ℕ, ◌+◌, ◌<◌, true, false, ◌&&◌, None, sym, refl, ap, ◌∙◌, arith, below_more}
+use Rattle.std.proofs.Common.{◌≡◌, ◌<◌, true, false, None, sym, ◌∙◌, arith, below_more}
 use Rattle.rows.specs.Rows.{has}
 use Rattle.models.specs.Models.{slots}
 use Rattle.graphlike.specs.Diagrams.{model}

@@ -1,4 +1,4 @@
-use Rattle.std.proofs.Common.{◌≡◌, true, ◌&&◌, eqb, sym, refl, ap, ◌∙◌, ap₂, arith}
+use Rattle.std.proofs.Common.{◌≡◌, true, ◌&&◌, eqb, sym, ap, ◌∙◌, ap₂, arith}
 use Rattle.models.specs.Models.{slots}
 use Rattle.graphlike.specs.Diagrams.{model}
 use Rattle.reductions.specs.Rules.{degree, drop_fits}

@@ -1,6 +1,6 @@
-use Rattle.std.proofs.Common.{◌≡◌, ◌/◌, ◌%◌, ◌^◌, ◌<◌, ◌≤◌, eqb, length, get_or, sym, ap, ◌∙◌, arith, rules, ltb-true, le-ltb}
+use Rattle.std.proofs.Common.{◌≡◌, ◌/◌, ◌%◌, ◌^◌, ◌≤◌, eqb, length, get_or, sym, ap, ◌∙◌, arith, rules, ltb-true, le-ltb}
 use lib.Bits.{bit_and, and_mask}
-use Rattle.rows.specs.Rows.{bit_of, has}
+use Rattle.rows.specs.Rows.{bit_of}
 use Rattle.rows.proofs.Words.{past_none}
 use Rattle.rows.proofs.row.Row.holds_number.Goals as goal
 

@@ -1,6 +1,6 @@
 use Rattle.std.proofs.Common.{◌≡◌, ℕ, ◌/◌, ◌%◌, ◌≤◌, cond, ltb, length, get_or, refl, ap, ◌∙◌, subst, arith, rules}
 use lib.Bits.{bit_and}
-use Rattle.rows.specs.Rows.{bit_of, has}
+use Rattle.rows.specs.Rows.{bit_of}
 use Rattle.rows.proofs.Words.{and_bit, all_words}
 use Rattle.rows.proofs.row.Row.intersect.Goals as goal
 

@@ -1,6 +1,5 @@
-use Rattle.std.proofs.Common.{◌≡◌, ℕ, ◌+◌, ◌*◌, ◌^◌, ◌<◌, ◌≤◌, get_or, sym, ap, ◌∙◌, arith, rules}
-use lib.Count.{ones, ones-le}
-use Rattle.graphs.specs.Counts.{bit, total}
+use Rattle.std.proofs.Common.{◌*◌, ◌^◌, ◌<◌, get_or, sym, arith, rules}
+use lib.Count.{ones-le}
 use Rattle.graphs.proofs.Sets.{total_most}
 use Rattle.rows.specs.Rows.{has}
 use Rattle.rows.proofs.Sizes.{size-more, none_yet}

@@ -1,4 +1,4 @@
-use Rattle.std.proofs.Common.{◌≡◌, ℕ, ◌*◌}
+use Rattle.std.proofs.Common.{◌≡◌, ◌*◌}
 use Rattle.graphs.specs.Counts.{bit, total}
 use Rattle.rows.specs.Rows.{has}
 use Rattle.rows.proofs.row.Row.len.Given as goal

@@ -1,4 +1,4 @@
-use Rattle.std.proofs.Common.{◌≡◌, Bool, true, false, not, ◌&&◌, refl, ap, ◌∙◌, ap₂}
+use Rattle.std.proofs.Common.{◌≡◌, Bool, true, false, not, ◌&&◌, refl, ap, ◌∙◌}
 use Rattle.graphs.specs.Rules.{xor}
 use Rattle.rows.specs.Rows.{has}
 use Rattle.rows.proofs.row.Row.subtract.Goals as goal

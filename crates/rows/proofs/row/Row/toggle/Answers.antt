@@ -1,8 +1,8 @@
-use Rattle.std.proofs.Common.{◌≡◌, ℕ, ◌*◌, ◌/◌, ◌%◌, ◌^◌, ◌<◌, eqb, length, get_or, set, sym, ap, ◌∙◌, ap₂, arith, rules}
+use Rattle.std.proofs.Common.{◌≡◌, ◌*◌, ◌/◌, ◌%◌, ◌^◌, ◌<◌, eqb, length, get_or, set, ap, ◌∙◌, arith, rules}
 use lib.Bits.{bit_xor}
 use Rattle.std.proofs.lemmas.Nat.{one_shl}
 use Rattle.graphs.specs.Rules.{xor}
-use Rattle.rows.specs.Rows.{bit_of, has}
+use Rattle.rows.specs.Rows.{bit_of}
 use Rattle.rows.proofs.Toggles.{toggled}
 use Rattle.rows.proofs.row.Row.toggle.Goals as goal
 

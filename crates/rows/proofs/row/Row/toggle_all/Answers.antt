@@ -1,7 +1,6 @@
 use Rattle.std.proofs.Common.{◌≡◌, ℕ, ◌/◌, ◌%◌, ◌≤◌, cond, ltb, length, get_or, refl, ap, ◌∙◌, subst, arith, rules}
 use lib.Bits.{bit_xor}
-use Rattle.graphs.specs.Rules.{xor}
-use Rattle.rows.specs.Rows.{bit_of, has}
+use Rattle.rows.specs.Rows.{bit_of}
 use Rattle.rows.proofs.Words.{bit-xor, all_words}
 use Rattle.rows.proofs.row.Row.toggle_all.Goals as goal
 

@@ -1,6 +1,5 @@
 use Rattle.std.proofs.Common.{◌≡◌, cond, sym, refl, ap, ◌∙◌}
 use Rattle.models.specs.Edits.{attached}
-use Rattle.models.specs.Models.{Model}
 use Rattle.models.proofs.Keeps.{attached-sound}
 use Rattle.parts.specs.Tables.{open_leg}
 use Rattle.graphlike.specs.Shapes.{shape}

@@ -1,6 +1,5 @@
 use Rattle.models.specs.Edits.{crossed}
 use Rattle.models.proofs.Toggles.{crossed-sound}
-use Rattle.rows.specs.Rows.{has}
 use Rattle.graphlike.specs.Shapes.{shape}
 use Rattle.graphlike.specs.Diagrams.{model}
 use Rattle.graphlike.proofs.Sounds.{sound, owed}

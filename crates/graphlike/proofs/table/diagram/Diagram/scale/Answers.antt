@@ -1,6 +1,5 @@
-use Rattle.std.proofs.Common.{◌≡◌, true, cond, ℤ, sym, refl, ap, ◌∙◌, subst, w32}
+use Rattle.std.proofs.Common.{◌≡◌, true, ℤ, sym, refl, subst, w32}
 use Rattle.std.proofs.lemmas.Int.{to_z-of_z}
-use Rattle.models.specs.Models.{Model}
 use Rattle.models.specs.Edits.{product, scaled, can_scale}
 use Rattle.models.proofs.Keeps.{scaled-sound}
 use Rattle.parts.specs.Scales.{scale_of}
