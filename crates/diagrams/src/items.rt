@@ -2,6 +2,8 @@
 use crate::power::Power;
 use angles::{Phase, Turn};
 
+pub mod making;
+
 // A spider is green, Z, or red, X.
 #[derive(Clone, Copy, Debug, PartialEq, Eq)]
 pub enum Colour {
