@@ -37,6 +37,13 @@ quarter A = turned A 2
 abbrev pub root_two : (A : Amounts) → A.Amount
 root_two A = A.add (turned A 1) (turned A 7)
 
--- the system whose amounts are the values of S
-abbrev pub amounts_of : (S : Type 0) → S → S → S → (S → S → S) → (S → S → S) → Amounts
-amounts_of S nothing unit eighth sum product = record { Amount = S; zero = nothing; one = unit; w = eighth; add = sum; mul = product }
+-- the operations on the values of S, and the system that they make
+pub record Operations (S : Type 0) : Type 0 where
+  pub nothing : S
+  pub unit : S
+  pub eighth : S
+  pub sum : S → S → S
+  pub product : S → S → S
+
+abbrev pub amounts_of : (S : Type 0) → Operations S → Amounts
+amounts_of S on = record { Amount = S; zero = on.nothing; one = on.unit; w = on.eighth; add = on.sum; mul = on.product }

@@ -2,7 +2,7 @@
 // Each function with an empty body stands for the theorem that its contract states.
 #![tactic(auto)]
 
-ghost use Rattle.std.specs.Prelude.{◌≡◌, T};
+ghost use Rattle.std.specs.Prelude.{◌≡◌, IsTrue};
 ghost use Rattle.amounts.specs.Amounts.{turned, root_two, Lawful};
 ghost use Rattle.amounts.specs.Eighths.{times, eighths, number, coefficients};
 ghost use Rattle.amounts.specs.Scalars.{scalar, RootTwoIs, QuarterIs, RootCancels, ScalarTold, ScalarNotZero, SameEquivalence, SameAtOnePower};
@@ -39,8 +39,8 @@ pub fn same_is_an_equivalence()
 
 // Whether √2^a·w^m and √2^b·w^n are equal.
 pub fn same_scalar(a: u32, m: u32, b: u32, n: u32) -> bool
-    ensures equal { T result → scalar a m ≡ scalar b n }
-    ensures apart { scalar a m ≡ scalar b n → T result }
+    ensures equal { IsTrue result → scalar a m ≡ scalar b n }
+    ensures apart { scalar a m ≡ scalar b n → IsTrue result }
 {
     a == b && m % 8 == n % 8
 }
@@ -58,6 +58,6 @@ pub fn turned_coefficients(m: u32) -> [i8; 4]
 pub fn root_times(a: i32, b: i32, c: i32, d: i32) -> [i64; 4]
     ensures { result ≡ coefficients (times (root_two eighths) (number a b c d)) }
 {
-    let (a, b, c, d) = (a as i64, b as i64, c as i64, d as i64);
+    let (a, b, c, d) = (i64::from(a), i64::from(b), i64::from(c), i64::from(d));
     [b - d, a + c, b + d, c - a]
 }

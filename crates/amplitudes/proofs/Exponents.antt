@@ -36,7 +36,7 @@ module _ (A : Amounts) (laws : Lawful A) where
   pub terms_are_powers : TermsArePowers A
   terms_are_powers cs [] n row x = sym (turned_none A laws)
   terms_are_powers cs (Spider s ∷ is) n row x =
-      ap₂ A.mul (ap (λ t. cond (x n) t A.one) (quarter-power A laws s.phase.quarters) ∙ if_set A laws (x n) s.phase.quarters) (terms_are_powers cs is (n + 1) row x)
+      ap₂ A.mul (ap (λ t. cond (x n) t A.one) (quarter-power A laws s.phase.parts) ∙ if_set A laws (x n) s.phase.parts) (terms_are_powers cs is (n + 1) row x)
       ∙ weighed_mul true (allowed cs is (n + 1) row x) _ _
   terms_are_powers cs (Wire w ∷ is) n row x = ap₂ A.mul (joint_is (wire_kind cs w) (x w.first) (x w.second)) (terms_are_powers cs is n row x) ∙ weighed_mul (allows (wire_kind cs w) (x w.first) (x w.second)) (allowed cs is n row x) _ _
   terms_are_powers cs (Leg l ∷ is) n row x = ap₂ A.mul (joint_is (leg_kind cs l) (x l.spider) (leg_bit l.setting row)) (terms_are_powers cs is n (row_after l.setting row) x) ∙ weighed_mul (allows (leg_kind cs l) (x l.spider) (leg_bit l.setting row)) (allowed cs is n (row_after l.setting row) x) _ _

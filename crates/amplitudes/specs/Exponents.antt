@@ -1,5 +1,5 @@
 -- The term of a list of items as a power of i. Assumes nothing.
-use Rattle.std.specs.Prelude.{◌≡◌, ℕ, ◌+◌, ◌*◌, Bool, true, false, cond, not, ◌&&◌, List, [], ◌∷◌}
+use Rattle.std.specs.Prelude.{◌≡◌, ℕ, ◌+◌, ◌*◌, Bool, true, false, if◌then◌else◌, not, ◌&&◌, List, [], ◌∷◌}
 use Rattle.amounts.specs.Amounts.{Amounts}
 use Rattle.graphs.specs.Counts.{bit}
 use Rattle.graphs.specs.Graphs.{Bits, quarters}
@@ -23,7 +23,7 @@ allows Hadamard a b = true
 -- the quarter turns of a term
 abbrev pub exponent : List Colour → List Item → ℕ → List Bool → Bits → ℕ
 exponent cs [] n row x = 0
-exponent cs (Spider s ∷ is) n row x = bit (x n) * s.phase.quarters + exponent cs is (n + 1) row x
+exponent cs (Spider s ∷ is) n row x = bit (x n) * s.phase.parts + exponent cs is (n + 1) row x
 exponent cs (Wire w ∷ is) n row x = joint_turns (wire_kind cs w) (x w.first) (x w.second) + exponent cs is n row x
 exponent cs (Leg l ∷ is) n row x = joint_turns (leg_kind cs l) (x l.spider) (leg_bit l.setting row) + exponent cs is n (row_after l.setting row) x
 exponent cs (Factor f ∷ is) n row x = exponent cs is n row x
@@ -41,4 +41,4 @@ allowed cs (Zero ∷ is) n row x = false
 -- a term is zero, or i to the power of its quarter turns
 abbrev pub TermsArePowers : Amounts → Type 0
 TermsArePowers A =
-    (cs : List Colour) (is : List Item) (n : ℕ) (row : List Bool) (x : Bits) → term A cs is n row x ≡ cond (allowed cs is n row x) (quarters A (exponent cs is n row x)) A.zero
+    (cs : List Colour) (is : List Item) (n : ℕ) (row : List Bool) (x : Bits) → term A cs is n row x ≡ if allowed cs is n row x then quarters A (exponent cs is n row x) else A.zero

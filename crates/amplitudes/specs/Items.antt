@@ -1,5 +1,5 @@
 -- What the amplitude of a list of items is, as literal products. Assumes nothing.
-use Rattle.std.specs.Prelude.{ℕ, ◌+◌, Bool, true, false, cond, ◌&&◌, List, [], ◌∷◌, length, ℤ, pos, negsuc, ◌+ℤ◌, slice_index_or}
+use Rattle.std.specs.Prelude.{ℕ, ◌+◌, Bool, true, false, if◌then◌else◌, ◌&&◌, List, [], ◌∷◌, length, ℤ, pos, negsuc, ◌+ℤ◌, slice_index_or}
 use Rattle.amounts.specs.Amounts.{Amounts, power, turned, quarter}
 use Rattle.amounts.specs.Eighths.{eighths, times}
 use Rattle.amounts.specs.Scalars.{Scaled}
@@ -41,8 +41,8 @@ leg_kind cs l = at_end (slice_index_or cs l.spider Z) l.kind
 -- what a wire of an effective kind is between two bits: -1 for a Hadamard one between ones, zero for a
 -- plain one between unequal bits
 abbrev pub joint : (A : Amounts) → Kind → Bool → Bool → A.Amount
-joint A Hadamard a b = cond (a && b) (turned A 4) A.one
-joint A Plain a b = cond (xor a b) A.zero A.one
+joint A Hadamard a b = if a && b then turned A 4 else A.one
+joint A Plain a b = if xor a b then A.zero else A.one
 
 -- the bit of a leg, and what of the row is left for the legs after it
 abbrev pub first_bit : List Bool → Bool
@@ -67,7 +67,7 @@ row_after HeldOne row = row
 -- number of the next spider
 abbrev pub term : (A : Amounts) → List Colour → List Item → ℕ → List Bool → Bits → A.Amount
 term A cs [] n row x = A.one
-term A cs (Spider s ∷ is) n row x = A.mul (cond (x n) (power A (quarter A) s.phase.quarters) A.one) (term A cs is (n + 1) row x)
+term A cs (Spider s ∷ is) n row x = A.mul (if x n then power A (quarter A) s.phase.parts else A.one) (term A cs is (n + 1) row x)
 term A cs (Wire w ∷ is) n row x = A.mul (joint A (wire_kind cs w) (x w.first) (x w.second)) (term A cs is n row x)
 term A cs (Leg l ∷ is) n row x = A.mul (joint A (leg_kind cs l) (x l.spider) (leg_bit l.setting row)) (term A cs is n (row_after l.setting row) x)
 term A cs (Factor f ∷ is) n row x = term A cs is n row x
@@ -101,7 +101,7 @@ eighth_turns [] = 0
 eighth_turns (Spider s ∷ is) = eighth_turns is
 eighth_turns (Wire w ∷ is) = eighth_turns is
 eighth_turns (Leg l ∷ is) = eighth_turns is
-eighth_turns (Factor f ∷ is) = f.m.eighths + eighth_turns is
+eighth_turns (Factor f ∷ is) = f.m.parts + eighth_turns is
 eighth_turns (Zero ∷ is) = eighth_turns is
 
 -- the amplitude of a list of items at a row

@@ -11,7 +11,7 @@ use amounts::system::AmountSystem;
 // In every system of amounts, the term of a list of items, a product with a factor for each spider, wire
 // and leg, is zero or i to the power of its quarter turns.
 pub fn terms_are_powers<S: AmountSystem>()
-    ensures { TermsArePowers (amounts_of S S.AmountSystem.nothing S.AmountSystem.unit S.AmountSystem.eighth S.AmountSystem.sum S.AmountSystem.product) }
+    ensures { TermsArePowers (amounts_of S S.operations) }
 {}
 
 // The amplitudes of some small diagrams and circuits, in ℤ[w].

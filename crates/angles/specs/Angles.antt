@@ -1,25 +1,28 @@
--- Quarter turns and eighth turns, each counted round and round. Assumes nothing.
-use Rattle.std.specs.Prelude.{ℕ, ◌/◌, ◌%◌, cond, Some, None, Option, ◌==◌, nat_lt}
+-- Angles in equal parts of a turn, counted round and round: quarter turns and eighth turns. Assumes nothing.
+use Rattle.std.specs.Prelude.{ℕ, ◌+◌, ◌/◌, ◌%◌, ◌<◌, if◌then◌else◌, Some, None, Option, ◌==◌, nat_lt}
+use Rattle.angles.specs.declared.angle.Angle.{Angle}
 use Rattle.std.proofs.Common.{arith}
-use Rattle.angles.specs.declared.quarter.Phase.{Phase}
-use Rattle.angles.specs.declared.eighth.Turn.{Turn}
+use Rattle.std.proofs.Math.Nat.{mod-lt}
 
--- n quarter turns, whole turns left out
-abbrev pub phase : ℕ → Phase
-phase n = record { quarters = n % 4; bound = omega arith }
+-- counting round stays below the number of parts
+pub below : (n last : ℕ) → n % (last + 1) < last + 1
+below n last = mod-lt n (omega arith)
 
--- n eighth turns, whole turns left out
-abbrev pub turn : ℕ → Turn
-turn n = record { eighths = n % 8; bound = omega arith }
+-- n parts of a turn of last + 1 parts, whole turns left out
+abbrev pub angle : (last n : ℕ) → Angle last
+angle last n = record { parts = n % (last + 1); bound = below n last }
 
--- the phase of exactly n quarter turns, where n is below 4
-abbrev pub exact_phase : ℕ → Option Phase
-exact_phase n = cond (nat_lt n 4) (Some (phase n)) None
+-- the angle of exactly n parts, where that is no whole turn
+abbrev pub exact_angle : (last n : ℕ) → Option (Angle last)
+exact_angle last n = if nat_lt n (last + 1) then Some (angle last n) else None
 
--- the turn of exactly n eighth turns, where n is below 8
-abbrev pub exact_turn : ℕ → Option Turn
-exact_turn n = cond (nat_lt n 8) (Some (turn n)) None
+-- n quarter turns, and n eighth turns
+abbrev pub phase : ℕ → Angle 3
+phase = angle 3
+
+abbrev pub turn : ℕ → Angle 7
+turn = angle 7
 
 -- the phase that is half as many quarters as a turn has eighths, where that is whole
-abbrev pub half_turn : Turn → Option Phase
-half_turn t = cond (t.eighths % 2 == 0) (Some (phase (t.eighths / 2))) None
+abbrev pub half_turn : Angle 7 → Option (Angle 3)
+half_turn t = if t.parts % 2 == 0 then Some (phase (t.parts / 2)) else None

@@ -1,8 +1,6 @@
 // Angles in two units that are never mixed by accident: quarter turns for spiders, eighth turns for scalars.
 #![tactic(auto)]
 
-pub mod eighth;
-pub mod quarter;
+pub mod angle;
 
-pub use eighth::Turn;
-pub use quarter::Phase;
+pub use angle::{Phase, Turn};

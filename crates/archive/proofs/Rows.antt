@@ -1,49 +1,51 @@
 -- Rows of bytes read one by one, and legs closed one by one. Assumes nothing.
-use Rattle.std.proofs.Common.{◌≡◌, ℕ, zero, suc, ◌+◌, ◌<◌, Bool, true, false, eqb, ltb, List, [], ◌∷◌, length, get_or, drop, is_some, Some, None, Ok, Err, Option, Result, sym, refl, ap, ◌∙◌, add-one, arith, drop-cons}
+use Rattle.std.proofs.Common.{◌≡◌, ℕ, Bor, ◌+◌, Bool, true, false, cond, eqb, ltb, List, [], ◌∷◌, length, Some, None, Ok, Err, Option, Result, sym, refl, ap, ◌∙◌, arith, eq-eqb}
+use Rattle.std.specs.List.{position_from, position}
+use Rattle.std.specs.Slice.Iter.{iter_rest, iter_steps}
+use Rattle.std.specs.Option.{option_eq, option_copied}
+use Rattle.std.specs.declared.slice.Iter.{Iter}
+use Rattle.std.proofs.lemmas.Iterator.Adapters.{position_from-zero}
 use Rattle.amplitudes.specs.Items.{first_bit, other_bits}
-use Rattle.models.specs.Models.{ModelLeg, Model, open_count}
-use Rattle.reductions.specs.Answers.{Answer as Answered, answered, closed_leg, closed_from}
-use Rattle.reductions.proofs.Closing.{closed_none, closed_some}
-use Rattle.graphs.specs.Counts.{bit}
+use Rattle.models.specs.Models.{Model, open_count}
+use Rattle.reductions.specs.Answers.{Answer as Answered, answered, closed_from}
 use Rattle.refusals.specs.declared.AskRefusal.{AskRefusal}
 use Rattle.refusals.specs.declared.AskRefusal.TheVariants.{RowLength}
-use Rattle.archive.specs.Questions.{bits, first_bad, closes, judged, judged_byte, judged_row, asked}
+use Rattle.archive.specs.Questions.{bits, first_bad, judged, judged_byte, judged_row, asked}
 
--- a byte that is a bit is passed over
+-- the first byte that is no bit is the first that passes a test
 abbrev stop : List ℕ → ℕ → Bool → Option ℕ
 stop bs n true = Some n
 stop bs n false = first_bad bs (n + 1)
 
-pub passed : (row : List ℕ) (n : ℕ) → n < length row → ltb 1 (get_or row n 0) ≡ false → first_bad (drop n row) n ≡ first_bad (drop (n + 1) row) (n + 1)
-passed row n low e = ap (λ bs. first_bad bs n) (drop-cons row n 0 low) ∙ ap (stop (drop (suc n) row) n) e ∙ ap (λ k. first_bad (drop k row) (n + 1)) (sym (add-one n))
-
-pub stopped : (row : List ℕ) (n : ℕ) → n < length row → ltb 1 (get_or row n 0) ≡ true → first_bad (drop n row) n ≡ Some n
-stopped row n low e = ap (λ bs. first_bad bs n) (drop-cons row n 0 low) ∙ ap (stop (drop (suc n) row) n) e
-
--- the next bit of a row, and the bits after it
-pub next_bit : (row : List ℕ) (n : ℕ) → first_bit (drop n (bits row)) ≡ eqb (get_or row n 0) 1
-next_bit [] zero = refl
-next_bit [] (suc n) = refl
-next_bit (b ∷ bs) zero = refl
-next_bit (b ∷ bs) (suc n) = next_bit bs n
-
-pub later_bits : (row : List ℕ) (n : ℕ) → other_bits (drop n (bits row)) ≡ drop (suc n) (bits row)
-later_bits [] zero = refl
-later_bits [] (suc n) = refl
-later_bits (b ∷ bs) zero = refl
-later_bits (b ∷ bs) (suc n) = later_bits bs n
-
--- one leg more is closed, or was not open
-pub closes_on : (n l next : ℕ) (row : List ℕ) (m : Model) → closed_from (suc n) l (drop next (bits row)) m ≡ closed_from n (suc l) (drop (next + bit (is_some (m.leg l))) (bits row)) (closes l (eqb (get_or row next 0) 1) m (m.leg l))
-closes_on n l next row m = go (m.leg l) refl
+first_from : (row : List ℕ) (n : ℕ) → first_bad row n ≡ position_from (λ b. ltb 1 b) n row
+first_from [] n = refl
+first_from (b ∷ bs) n = go (ltb 1 b) refl (first_from bs (n + 1))
   where
-    go : (q : Option ModelLeg) → m.leg l ≡ q → closed_from (suc n) l (drop next (bits row)) m ≡ closed_from n (suc l) (drop (next + bit (is_some q)) (bits row)) (closes l (eqb (get_or row next 0) 1) m q)
-    go None e = let same : next + 0 ≡ next = omega arith in closed_none n l (drop next (bits row)) m e ∙ ap (λ k. closed_from n (suc l) (drop k (bits row)) m) (sym same)
-    go (Some o) e =
-        let more : suc next ≡ next + 1 = omega arith in
-        closed_some n l (drop next (bits row)) m o e
-        ∙ (λ i. closed_from n (suc l) (later_bits row next i) (closed_leg l o (next_bit row next i) m))
-        ∙ ap (λ k. closed_from n (suc l) (drop k (bits row)) (closed_leg l o (eqb (get_or row next 0) 1) m)) more
+    go : (t : Bool) → ltb 1 b ≡ t → first_bad bs (n + 1) ≡ position_from (λ b. ltb 1 b) (n + 1) bs → first_bad (b ∷ bs) n ≡ position_from (λ b. ltb 1 b) n (b ∷ bs)
+    go true e h = ap (stop bs n) e ∙ sym (ap (λ t. cond t (Some n) (position_from (λ b. ltb 1 b) (n + 1) bs)) e)
+    go false e h = ap (stop bs n) e ∙ h ∙ sym (ap (λ t. cond t (Some n) (position_from (λ b. ltb 1 b) (n + 1) bs)) e)
+
+pub first_bad-found : (row : List ℕ) → first_bad row 0 ≡ position (λ b. ltb 1 b) row
+first_bad-found row = first_from row 0 ∙ sym (position_from-zero (λ b. ltb 1 b) row)
+
+-- a row of the right length is judged by its bytes
+abbrev of_length : Result Prim.Unit AskRefusal → Bool → Result Prim.Unit AskRefusal
+of_length r false = Err RowLength
+of_length r true = r
+
+pub judged_bytes : (row : List ℕ) (m : Model) → length row ≡ open_count m → judged_row row m ≡ judged_byte (first_bad row 0)
+judged_bytes row m e = ap (of_length (judged_byte (first_bad row 0))) (eq-eqb (length row) (open_count m) e)
+
+-- the next byte of a row gives the next bit, and the bytes after it the bits after that
+none_left : (bs : List ℕ) → length bs ≡ 0 → bs ≡ []
+none_left [] e = refl
+none_left (b ∷ bs) e = absurd (omega arith)
+
+pub came_off : (s t : Iter ℕ) (r : Option (Bor ℕ)) → iter_steps s r t → (first_bit (bits (iter_rest s)) ≡ option_eq eqb (option_copied r) (Some 1)) × (other_bits (bits (iter_rest s)) ≡ bits (iter_rest t))
+came_off s t (Some x) h = (ap (λ bs. first_bit (bits bs)) h, ap (λ bs. other_bits (bits bs)) h)
+came_off s t None h =
+    let none = none_left (iter_rest s) h.0 in
+    (ap (λ bs. first_bit (bits bs)) none, ap (λ bs. other_bits (bits bs)) none ∙ sym (ap (λ i. bits (iter_rest i)) h.1 ∙ ap bits none))
 
 pub closed_end : (l : ℕ) (row : List Bool) (m : Model) → closed_from 0 l row m ≡ m
 unfolding closed_from

@@ -2,9 +2,9 @@
 use Rattle.std.specs.Prelude.{ℕ, ◌+◌, Bool, true, false, List, [], ◌∷◌, length, Some, None, Ok, Err, Option, Result, ◌==◌, nat_lt}
 use Rattle.refusals.specs.declared.AskRefusal.{AskRefusal}
 use Rattle.refusals.specs.declared.AskRefusal.TheVariants.{RowLength, RowByte}
-use Rattle.models.specs.Models.{ModelLeg, Model, open_count}
+use Rattle.models.specs.Models.{Model, open_count}
 use Rattle.parts.specs.Scales.{scale_of}
-use Rattle.reductions.specs.Answers.{Answer as Answered, answered, closed_leg}
+use Rattle.reductions.specs.Answers.{Answer as Answered, answered}
 use Rattle.archive.specs.declared.answer.Answer.{Answer}
 
 -- a row of bytes as bits
@@ -35,8 +35,3 @@ judged_row row m = elim (length row == open_count m) [ false ↦ Err RowLength |
 
 abbrev pub answer_is : Answer → Answered
 answer_is a = record { scalar = scale_of a.scalar; steps = a.steps }
-
--- a leg closed if it is open
-abbrev pub closes : ℕ → Bool → Model → Option ModelLeg → Model
-closes l b m None = m
-closes l b m (Some o) = closed_leg l o b m

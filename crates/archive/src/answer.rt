@@ -1,17 +1,19 @@
 // The amplitude of a diagram at a row.
-ghost use Rattle.std.specs.Prelude.{◌≡◌, ◌+◌, ◌<◌, ◌≤◌, is_some, Ok, Err, MatchResult, ◌==◌, slice_index};
-ghost use Rattle.graphs.specs.Counts.{bit as one_if};
+ghost use Rattle.std.specs.Prelude.{◌≡◌, ℕ, ◌+◌, ◌<◌, Some, Ok, Err, MatchResult, nat_lt, position};
+ghost use Rattle.std.specs.Slice.Iter.{iter_rest};
 ghost use Rattle.models.specs.Edits.{blank};
-ghost use Rattle.reductions.specs.Answers.{closed, Right};
+ghost use Rattle.reductions.specs.Answers.{closed, closed_from, closed_leg, Right};
+ghost use Rattle.parts.specs.Tables.{open_leg};
 ghost use Rattle.graphlike.specs.Diagrams.{model};
-ghost use Rattle.archive.specs.Questions.{bits, first_bad, closes, judged_row, asked, answer_is};
+ghost use Rattle.archive.specs.Questions.{bits, judged_row, asked, answer_is};
 
 use graphlike::Diagram;
-use parts::leg::{LEGS, LegNumber};
+use parts::leg::{LEGS, LegNumber, OpenLeg};
 use parts::scalar::Scalar;
 use reducers::reduce::reduce;
 use refusals::AskRefusal;
 use rows::slot::SLOTS;
+use std::slice::Iter;
 
 // The amplitude, zero or √2^k·w^m, and the steps that it took.
 #[derive(Clone, Copy, Debug, PartialEq, Eq)]
@@ -22,61 +24,40 @@ pub struct Answer {
 
 // The place of the first byte that is no bit.
 fn first_bad(row: &[u8]) -> Option<usize>
-    ensures { result ≡ first_bad row.now 0 }
+    ensures { result ≡ position (λ b. nat_lt 1 b) row.now }
 {
-    for place in 0..row.len() {
-        if row[place] > 1 {
-            return Some(place);
-        }
-    }
-    None
+    row.iter().position(|byte| *byte > 1)
 }
 
-// The bit at a place of a row, and 0 past its end.
-fn bit_at(row: &[u8], place: usize) -> bool
-    ensures { result ≡ (slice_index row.now place == 1) }
+// Closes an open leg at a bit.
+fn close(work: &mut Diagram, leg: LegNumber, open: OpenLeg, bit: bool)
+    requires { (model work.old).leg leg.number ≡ Some (open_leg «open») }
+    ensures { model work.new ≡ closed_leg leg.number (open_leg «open») bit (model work.old) }
 {
-    match row.get(place) {
-        Some(byte) => *byte == 1,
-        None => false,
-    }
-}
-
-// Closes a leg at a bit, and says whether it was open.
-fn close(work: &mut Diagram, leg: LegNumber, bit: bool) -> bool
-    ensures was { result ≡ is_some ((model work.old).leg leg.number) }
-    ensures after { model work.new ≡ closes leg.number bit (model work.old) ((model work.old).leg leg.number) }
-{
-    let Some(open) = work.leg(leg) else {
-        return false;
-    };
     work.detach(leg);
     let _ = work.hold(open.slot, open.kind, leg, bit);
-    true
 }
 
-// Closes the leg of a number, if it is open, at the next bit of a row, and says which bit is next then.
-fn close_number(work: &mut Diagram, number: usize, row: &[u8], next: usize) -> usize
-    ensures next { number < 64 → next ≤ number → result ≡ next + one_if (is_some ((model work.old).leg number)) }
-    ensures after { number < 64 → model work.new ≡ closes number (slice_index row.now next == 1) (model work.old) ((model work.old).leg number) }
+// Closes the leg of a number, if it is open, at the bit that the next byte of a row gives, or at 0 past its end.
+fn close_number(work: &mut Diagram, number: usize, bytes: &mut Iter<'_, u8>)
+    ensures { number < 64 → (n : ℕ) → closed_from (n + 1) number (bits (iter_rest bytes.old)) (model work.old) ≡ closed_from n (number + 1) (bits (iter_rest bytes.new)) (model work.new) }
 {
     let Some(leg) = LegNumber::new(number) else {
-        return next;
+        return;
     };
-    if close(work, leg, bit_at(row, next)) {
-        next.saturating_add(1)
-    } else {
-        next
+    if let Some(open) = work.leg(leg) {
+        let bit = bytes.next().copied() == Some(1);
+        close(work, leg, open, bit);
     }
 }
 
-// Closes every open leg at its bit of a row.
+// Closes every open leg at its bit of a row, in the order of the legs' numbers, which are what is walked here.
 fn close_all(work: &mut Diagram, row: &[u8])
     ensures { model work.new ≡ closed (bits row.now) (model work.old) }
 {
-    let mut next = 0;
+    let mut bytes = row.iter();
     for number in 0..LEGS {
-        next = close_number(work, number, row, next);
+        close_number(work, number, &mut bytes);
     }
 }
 
@@ -87,10 +68,10 @@ fn judge(diagram: &Diagram, row: &[u8]) -> Result<(), AskRefusal>
     if row.len() != diagram.open_legs() {
         return Err(AskRefusal::RowLength);
     }
-    match first_bad(row) {
-        Some(place) => Err(AskRefusal::RowByte(place)),
-        None => Ok(()),
+    if let Some(place) = first_bad(row) {
+        return Err(AskRefusal::RowByte(place));
     }
+    Ok(())
 }
 
 // The amplitude of a diagram at a row of one byte for each open leg, 0 or 1. The diagram stays as it is, and the

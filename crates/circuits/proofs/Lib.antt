@@ -1,4 +1,5 @@
 pub mod Accepting
+pub mod Inverses
 pub mod Legs
 pub mod Moves
 pub mod Readings

@@ -1,10 +1,8 @@
 -- A text that spells a circuit is read as its gates. Assumes nothing.
-use Rattle.std.proofs.Common.{◌≡◌, ℕ, suc, ◌+◌, ◌/◌, ◌%◌, ◌<◌, ◌≤◌, Bool, true, false, cond, ◌&&◌, eqb, ltb, leb, List, [], ◌∷◌, ◌++◌, length, get_or, take, drop, Ok, sym, refl, ap, ◌∙◌, append_assoc, arith, ltb-false, ltb-true, lt-ltb, eq-eqb, ne_eqb}
-use borrow.Author.Tests.{lt-leb}
+use Rattle.std.proofs.Common.{◌≡◌, ℕ, ◌+◌, ◌/◌, ◌%◌, ◌<◌, ◌≤◌, Bool, true, false, cond, ◌&&◌, eqb, ltb, leb, List, [], ◌∷◌, ◌++◌, length, get_or, take, drop, Ok, sym, refl, ap, ◌∙◌, append_assoc, arith, ltb-false, ltb-true, lt-ltb, eq-eqb, ne_eqb}
 use Rattle.std.proofs.lemmas.List.{get_or-drop, drop-drop, take_at, drop_at, length-append, length-drop}
 use Rattle.std.proofs.lemmas.Bool.Decides.{nat_tests}
 use Rattle.std.specs.List.{flat_map, AllByRecursion}
-use Rattle.refusals.specs.Refusals.{text_limit}
 use Rattle.diagrams.specs.Streams.{finish}
 use Rattle.circuits.specs.Gates.{circuit_items}
 use Rattle.circuits.specs.Tokens.{decimal, is_digit, digits_at, number_at, line_end}
@@ -15,9 +13,9 @@ use Rattle.circuits.specs.declared.gates.Double.TheVariants.{ControlledX, Contro
 use Rattle.circuits.specs.declared.gates.Gate.{Gate}
 use Rattle.circuits.specs.declared.gates.Gate.TheVariants.{One, Two}
 use Rattle.circuits.specs.declared.lines.Name.TheVariants.{OneQubit, TwoQubits}
-use Rattle.circuits.specs.Lines.{onward, named, tested_at, operands_at, gate_at, head_at}
+use Rattle.circuits.specs.Lines.{named, tested_at, operands_at, gate_at, head_at}
 use Rattle.circuits.specs.Circuits.{Script, line_then, gates_from, headed, circuit}
-use Rattle.circuits.proofs.Moves.{gates_end, gates-more}
+use Rattle.circuits.proofs.Moves.{gates_end, gates-more, circuit-short}
 use Rattle.circuits.specs.Spelling.{spell_number, single_letter, double_letter, spell_gate, Valid, Spells}
 
 module _ (bs : List ℕ) (p : ℕ) (xs : List ℕ) (e : drop p bs ≡ xs) where
@@ -130,28 +128,18 @@ module _ (n : ℕ) (few : n ≤ 16) (bs : List ℕ) where
 
   gate_spelled : (p : ℕ) (g : Gate) (post : List ℕ) → drop p bs ≡ spell_gate g ++ post → Valid n g → gate_at n bs p ≡ Ok (g, p + length (spell_gate g))
   gate_spelled p (One g q) post e v =
-      let text : spell_gate (One g q) ++ post ≡ single_letter g ∷ 32 ∷ (spell_number q ++ (10 ∷ post)) = ap (λ l. single_letter g ∷ 32 ∷ l) (append_assoc (spell_number q) (10 ∷ []) post) in
-      let whole = e ∙ text in
-      let letter = first bs p (single_letter g) (32 ∷ (spell_number q ++ (10 ∷ post))) whole in
-      let rest = one_spelled (p + 1) q g post (further bs p (single_letter g ∷ 32 ∷ (spell_number q ++ (10 ∷ post))) whole 1) v in
-      let long : p + 1 + 1 + length (spell_number q) + 1 ≡ p + length (spell_gate (One g q)) = omega (arith, length-append (spell_number q) (10 ∷ [])) in
-      ap (λ b. onward (named b p) (operands_at n bs (p + 1))) letter
-      ∙ ap (λ r. onward r (operands_at n bs (p + 1))) (named-single g p)
-      ∙ rest
-      ∙ ap (λ k. Ok (One g q, k)) long
+      let text : drop p bs ≡ single_letter g ∷ 32 ∷ (spell_number q ++ (10 ∷ post)) = e ∙ simp append_assoc in
+      let letter = first bs p (single_letter g) (32 ∷ (spell_number q ++ (10 ∷ post))) text in
+      let rest = one_spelled (p + 1) q g post (further bs p (single_letter g ∷ 32 ∷ (spell_number q ++ (10 ∷ post))) text 1) v in
+      let long : p + 1 + 1 + length (spell_number q) + 1 ≡ p + length (spell_gate (One g q)) = omega (arith, length-append {A = ℕ}) in
+      rw (letter, named-single g p, rest, long)
   gate_spelled p (Two g q r) post e v =
       let tail = spell_number r ++ (10 ∷ post) in
-      let text : spell_gate (Two g q r) ++ post ≡ double_letter g ∷ 32 ∷ (spell_number q ++ (32 ∷ tail)) =
-      ap (λ l. double_letter g ∷ 32 ∷ l) (append_assoc (spell_number q) (32 ∷ (spell_number r ++ (10 ∷ []))) post ∙ ap (λ l. spell_number q ++ (32 ∷ l)) (append_assoc (spell_number r) (10 ∷ []) post)) in
-      let whole = e ∙ text in
-      let letter = first bs p (double_letter g) (32 ∷ (spell_number q ++ (32 ∷ tail))) whole in
-      let rest = two_spelled (p + 1) q r g post (further bs p (double_letter g ∷ 32 ∷ (spell_number q ++ (32 ∷ tail))) whole 1) v.0 v.1 v.2 in
-      let long : p + 1 + 1 + length (spell_number q) + 1 + length (spell_number r) + 1 ≡ p + length (spell_gate (Two g q r)) =
-      omega (arith, length-append (spell_number q) (32 ∷ (spell_number r ++ (10 ∷ []))), length-append (spell_number r) (10 ∷ [])) in
-      ap (λ b. onward (named b p) (operands_at n bs (p + 1))) letter
-      ∙ ap (λ r. onward r (operands_at n bs (p + 1))) (named-double g p)
-      ∙ rest
-      ∙ ap (λ k. Ok (Two g q r, k)) long
+      let text : drop p bs ≡ double_letter g ∷ 32 ∷ (spell_number q ++ (32 ∷ tail)) = e ∙ simp append_assoc in
+      let letter = first bs p (double_letter g) (32 ∷ (spell_number q ++ (32 ∷ tail))) text in
+      let rest = two_spelled (p + 1) q r g post (further bs p (double_letter g ∷ 32 ∷ (spell_number q ++ (32 ∷ tail))) text 1) v.0 v.1 v.2 in
+      let long : p + 1 + 1 + length (spell_number q) + 1 + length (spell_number r) + 1 ≡ p + length (spell_gate (Two g q r)) = omega (arith, length-append {A = ℕ}) in
+      rw (letter, named-double g p, rest, long)
 
   gates_spelled : (gs : List Gate) (p : ℕ) → drop p bs ≡ flat_map spell_gate gs → AllByRecursion (Valid n) gs → gates_from n bs p ≡ record { gates = gs; ending = finish }
   gates_spelled [] p e v = gates_end n bs p (past_end bs p e)
@@ -183,8 +171,7 @@ module _ (n : ℕ) (some : 0 < n) (few : n ≤ 16) (bs more : List ℕ) (e : bs 
 -- a text that spells a circuit gives exactly its items, and then the end
 pub spelled_reads : (n : ℕ) (gs : List Gate) (bs : List ℕ) → Spells n gs bs → circuit bs ≡ circuit_items n gs finish
 spelled_reads n gs bs s =
-    let in_limit : ltb text_limit (length bs) ≡ false = lt-leb (suc text_limit) (length bs) (omega (arith, s.short)) in
     let head = head_spelled n s.some s.few bs (flat_map spell_gate gs) s.text in
     let start = 1 + 1 + length (spell_number n) + 1 in
     let script = gates_spelled n s.few bs gs start (after_head n s.some s.few bs (flat_map spell_gate gs) s.text) s.valid in
-    rw (in_limit, circuit) (ap (headed bs) head ∙ ap (λ (t : Script). circuit_items n t.gates t.ending) script)
+    circuit-short bs s.short ∙ (ap (headed bs) head ∙ ap (λ (t : Script). circuit_items n t.gates t.ending) script)

@@ -1,7 +1,7 @@
 -- What a circuit text means: the items of its gates, and then the end or the fault. Assumes nothing.
-use Rattle.std.specs.Prelude.{ℕ, zero, suc, true, false, List, [], ◌∷◌, length, drop, Ok, Err, Result, nat_le, nat_lt}
+use Rattle.std.specs.Prelude.{ℕ, zero, suc, if◌then◌else◌, List, [], ◌∷◌, length, Ok, Err, Result, nat_le, nat_lt}
 use Rattle.refusals.specs.Refusals.{text_limit}
-use Rattle.diagrams.specs.Streams.{Stream, End, finish, broken, only, ◌▸◌}
+use Rattle.diagrams.specs.Streams.{Stream, End, finish, broken, only}
 use Rattle.diagrams.specs.declared.items.Item.{Item}
 use Rattle.refusals.specs.declared.Fault.{Fault}
 use Rattle.refusals.specs.declared.Fault.TheVariants.{TextTooLong}
@@ -9,7 +9,7 @@ use Rattle.circuits.specs.declared.gates.Gate.{Gate}
 use Rattle.circuits.specs.declared.wiring.Wiring.{Wiring}
 use Rattle.circuits.specs.declared.text.Part.{Part}
 use Rattle.circuits.specs.declared.text.Part.TheVariants.{Unread, Opening, Placed, Closing}
-use Rattle.circuits.specs.Lines.{gate_at, head_at}
+use Rattle.circuits.specs.Lines.{gate_at, head_from, head_at}
 use Rattle.circuits.specs.Gates.{gate_items, opening, closing, played, circuit_items}
 
 -- gates in order, and how they end
@@ -25,10 +25,8 @@ line_then (Err f) more = record { gates = []; ending = broken f }
 -- the gates of at most as many lines as the first number says, over n qubits, from byte p on
 unfoldable pub lines : ℕ → ℕ → List ℕ → ℕ → Script
 lines zero n bs p = record { gates = []; ending = finish }
-lines (suc more) n bs p = elim (nat_le (length bs) p) [
-  | true ↦ record { gates = []; ending = finish }
-  | false ↦ line_then (gate_at n bs p) (lines more n bs)
-]
+lines (suc more) n bs p =
+    if nat_le (length bs) p then record { gates = []; ending = finish } else line_then (gate_at n bs p) (lines more n bs)
 
 -- the gates of all lines from byte p on: no text has more lines than bytes
 abbrev pub gates_from : ℕ → List ℕ → ℕ → Script
@@ -44,7 +42,7 @@ headed bs (Err f) = only (broken f)
 
 -- what the text bs means: its length is tested first
 abbrev pub circuit : List ℕ → Stream
-circuit bs = elim (nat_lt text_limit (length bs)) [ true ↦ only (broken TextTooLong) | false ↦ headed bs (head_at bs) ]
+circuit bs = if nat_lt text_limit (length bs) then only (broken TextTooLong) else headed bs (head_at bs)
 
 -- the items of the part that is being given
 abbrev pub part_items : ℕ → Wiring → Part → List Item
@@ -55,17 +53,10 @@ part_items n w Closing = closing n w
 
 -- what comes after that part
 abbrev pub remaining : List ℕ → ℕ → ℕ → Wiring → Part → Stream
-remaining bs p n w Unread = headed bs (head_at bs)
+remaining bs p n w Unread = headed bs (head_from bs p)
 remaining bs p n w Opening = scripted n w (gates_from n bs p)
 remaining bs p n w (Placed g before) = scripted n w (gates_from n bs p)
 remaining bs p n w Closing = only finish
-
--- what is still to come of a text that is read up to p, and of whose part k items are given
-unfoldable pub reading : List ℕ → ℕ → ℕ → Wiring → Part → ℕ → Stream
-reading bs p n w part k = elim (nat_lt text_limit (length bs)) [
-  | true ↦ only (broken TextTooLong)
-  | false ↦ drop k (part_items n w part) ▸ remaining bs p n w part
-]
 
 -- how many spiders there were before the gate that is being given
 abbrev pub spiders_before : Part → ℕ

@@ -1,5 +1,7 @@
 pub mod Tokens
 pub mod Lines
+pub mod Naming
+pub mod Reads
 pub mod Gates
 pub mod Circuits
 pub mod Sources

@@ -1,5 +1,5 @@
 -- How a circuit is spelled, and which texts spell one. Assumes nothing.
-use Rattle.std.specs.Prelude.{◌≡◌, ℕ, ◌+◌, ◌/◌, ◌%◌, ◌<◌, ◌≤◌, cond, List, [], ◌∷◌, ◌++◌, length, ◌≢◌, nat_lt}
+use Rattle.std.specs.Prelude.{◌≡◌, ℕ, ◌+◌, ◌/◌, ◌%◌, ◌<◌, ◌≤◌, if◌then◌else◌, List, [], ◌∷◌, ◌++◌, length, ◌≢◌, nat_lt}
 use Rattle.std.specs.List.{flat_map, AllByRecursion}
 use Rattle.refusals.specs.Refusals.{text_limit}
 use Rattle.circuits.specs.declared.gates.Single.{Single}
@@ -11,7 +11,7 @@ use Rattle.circuits.specs.declared.gates.Gate.TheVariants.{One, Two}
 
 -- a number below a hundred, in decimal digits
 abbrev pub spell_number : ℕ → List ℕ
-spell_number q = cond (nat_lt q 10) ((48 + q) ∷ []) ((48 + q / 10) ∷ (48 + q % 10) ∷ [])
+spell_number q = if nat_lt q 10 then (48 + q) ∷ [] else (48 + q / 10) ∷ (48 + q % 10) ∷ []
 
 -- the letters h, s, d, x, z
 abbrev pub single_letter : Single → ℕ

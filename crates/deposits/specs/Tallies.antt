@@ -12,12 +12,12 @@ more n = min (n + 1) (2 ^ 64 - 1)
 
 -- the legs of a circuit's inputs are its qubits
 abbrev pub leg_counted : Tally → Side → Tally
-leg_counted t Input = record { qubits = more t.qubits; spiders = t.spiders; wires = t.wires; legs = more t.legs }
-leg_counted t Output = record { qubits = t.qubits; spiders = t.spiders; wires = t.wires; legs = more t.legs }
+leg_counted t Input = record t { qubits = more t.qubits; legs = more t.legs }
+leg_counted t Output = record t { legs = more t.legs }
 
 abbrev pub counted : Tally → Item → Tally
-counted t (Spider s) = record { qubits = t.qubits; spiders = more t.spiders; wires = t.wires; legs = t.legs }
-counted t (Wire w) = record { qubits = t.qubits; spiders = t.spiders; wires = more t.wires; legs = t.legs }
+counted t (Spider s) = record t { spiders = more t.spiders }
+counted t (Wire w) = record t { wires = more t.wires }
 counted t (Leg l) = leg_counted t l.side
 counted t (Factor f) = t
 counted t Zero = t

@@ -1,65 +1,50 @@
 // What the program says of a deposit, on one line.
-ghost use Rattle.std.specs.Prelude.{◌≡◌, Some};
+ghost use Rattle.std.specs.Prelude.{◌≡◌, Some, Err};
+ghost use Rattle.deposits.specs.declared.report.Refusal.TheVariants.{Unreadable};
 ghost use Rattle.deposits.specs.Reports.{report, line_of};
 
+pub use crate::input::INPUT_LIMIT;
 use crate::input::circuit_part;
 use crate::tally::{Tally, tally_all};
 use circuits::text::CircuitText;
 use refusals::Fault;
-use refusals::reason::Reason;
 use std::fmt;
 
-// The most bytes that the program takes.
-pub const INPUT_LIMIT: usize = 60_000;
-
-#[derive(Clone, Copy)]
-pub enum Report {
+// Why a deposit is not accepted.
+#[derive(Clone, Copy, Debug, PartialEq, Eq)]
+pub enum Refusal {
     // more bytes than the program takes
     Long,
-    // the circuit is whole, and this is what it has
-    Accepted(Tally),
     // the circuit has this fault
-    Refused(Fault),
+    Unreadable(Fault),
+}
+
+impl From<Fault> for Refusal {
+    ghost from_gives = { λ fault refusal. refusal ≡ Unreadable fault };
+
+    fn from(fault: Fault) -> Refusal {
+        Refusal::Unreadable(fault)
+    }
 }
 
 // Reads a deposit's circuit to its end.
-pub fn examine(input: &[u8]) -> Report
+pub fn examine(input: &[u8]) -> Result<Tally, Refusal>
     ensures { result ≡ report input.now }
 {
     if input.len() > INPUT_LIMIT {
-        return Report::Long;
+        return Err(Refusal::Long);
     }
     let mut source = CircuitText::new(circuit_part(input));
-    match tally_all(&mut source) {
-        Ok(tally) => Report::Accepted(tally),
-        Err(fault) => Report::Refused(fault),
-    }
+    Ok(tally_all(&mut source)?)
 }
 
-impl fmt::Display for Report {
-    ghost output = { λ r. Some (line_of r) };
+impl fmt::Display for Refusal {
+    ghost output = { λ refusal. Some (line_of (Err refusal)) };
 
     fn fmt<W: fmt::Write>(&self, f: &mut fmt::Formatter<W>) -> fmt::Result {
         match *self {
-            Report::Long => f.write_str("long"),
-            Report::Accepted(tally) => {
-                let Tally {
-                    qubits,
-                    spiders,
-                    wires,
-                    legs,
-                } = tally;
-                write!(
-                    f,
-                    "accepted {qubits} qubits, {spiders} spiders, {wires} wires, {legs} legs"
-                )
-            }
-            Report::Refused(fault) => {
-                let number = fault.number();
-                let place = fault.place();
-                let layer = fault.layer();
-                write!(f, "refused {number} {place} {layer}")
-            }
+            Refusal::Long => f.write_str("long"),
+            Refusal::Unreadable(fault) => fault.fmt(f),
         }
     }
 }

@@ -1,3 +1,4 @@
 pub mod Limits
 pub mod Powers
+pub mod Settings
 pub mod Streams

@@ -3,6 +3,7 @@ use crate::power::Power;
 use angles::{Phase, Turn};
 
 pub mod making;
+pub mod settings;
 
 // A spider is green, Z, or red, X.
 #[derive(Clone, Copy, Debug, PartialEq, Eq)]

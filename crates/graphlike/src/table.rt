@@ -1,9 +1,9 @@
 // What a working diagram holds, without what holds of it; and its changes, one call each, so that a diagram is
 // sound before and after.
-ghost use Rattle.std.specs.Prelude.{◌≡◌, ◌+◌, ◌*◌, ◌^◌, ◌<◌, true, false, MatchOption, ◌≢◌};
+ghost use Rattle.std.specs.Prelude.{◌≡◌, ◌+◌, ◌*◌, ◌^◌, ◌<◌, true, false, MatchOption, ◌≢◌, nat_le};
 ghost use Rattle.graphs.specs.Counts.{bit};
 ghost use Rattle.rows.specs.Rows.{has};
-ghost use Rattle.models.specs.Models.{Sound, size, standing, open_count};
+ghost use Rattle.models.specs.Models.{Sound, size, standing, open_count, reach_limit};
 ghost use Rattle.models.specs.Edits.{blank, reserved, product, can_place, can_join, can_attach, can_scale};
 ghost use Rattle.models.specs.Edits.{placed, removed, gained, toggled, complemented_around, crossed, fused};
 ghost use Rattle.parts.specs.Scales.{scale_of};
@@ -13,7 +13,7 @@ ghost use Rattle.graphlike.specs.Shapes.{shape};
 use angles::{Phase, Turn};
 use links::links::Links;
 use links::phases::Phases;
-use parts::leg::{HOLDERS, LegNumber, OpenLeg};
+use parts::leg::{HOLDERS, LegNumber, OpenLeg, holder};
 use parts::legs::Legs;
 use parts::scalar::{REACH, Scalar};
 use rows::row::Row;
@@ -33,7 +33,7 @@ pub struct Table {
 
 // A half turn, or none.
 fn half_turn(whether: bool) -> Phase
-    ensures { result.quarters ≡ 2 * bit whether }
+    ensures { result.parts ≡ 2 * bit whether }
 {
     if whether { Phase::of(2) } else { Phase::of(0) }
 }
@@ -51,7 +51,7 @@ impl Table {
         }
     }
 
-    // What the power of the root of two may still come to, from that of a scalar.
+    // What the power of the root of two may still come to, from that of a scalar. (`usize` has no `From<u32>`.)
     fn reach(&self, scalar: Scalar) -> usize
         ensures value { result ≡ size (scale_of scalar) + 2 * standing (shape self.now) + 4 * open_count (shape self.now) }
         ensures bound { result < 2 ^ 33 }
@@ -59,24 +59,29 @@ impl Table {
         scalar.size() as usize + 2 * self.standing.len() + 4 * self.legs.count()
     }
 
+    // Whether the power of a scalar stays in reach with some more to come, as for a spider or a leg.
+    fn has_room(&self, scalar: Scalar, more: usize) -> bool
+        requires { more < 2 ^ 33 }
+        ensures { result ≡ nat_le (size (scale_of scalar) + 2 * standing (shape self.now) + 4 * open_count (shape self.now) + more) reach_limit }
+    {
+        // (`usize` has no `From<u32>`)
+        self.reach(scalar) + more <= REACH as usize
+    }
+
     // Whether a slot is kept for the spider that will hold a leg, which is open.
     fn is_reserved(&self, slot: Slot) -> bool
         ensures { result ≡ reserved (shape self.now) slot.number }
     {
-        let number = slot.number();
-        if number < HOLDERS {
-            return false;
-        }
-        match LegNumber::new(number - HOLDERS) {
-            Some(leg) => self.legs.get(leg).is_some(),
-            None => false,
-        }
+        slot.number()
+            .checked_sub(HOLDERS)
+            .and_then(LegNumber::new)
+            .is_some_and(|leg| self.legs.get(leg).is_some())
     }
 
     fn can_place(&self, slot: Slot) -> bool
         ensures { result ≡ can_place slot.number (shape self.now) }
     {
-        let room = self.reach(self.scalar) + 2 <= REACH as usize;
+        let room = self.has_room(self.scalar, 2);
         !self.standing.holds(slot) && !self.is_reserved(slot) && room
     }
 
@@ -89,25 +94,21 @@ impl Table {
     fn can_attach(&self, leg: LegNumber, open: OpenLeg) -> bool
         ensures { result ≡ can_attach leg.number (open_leg «open») (shape self.now) }
     {
-        let room = self.reach(self.scalar) + 4 <= REACH as usize;
+        let room = self.has_room(self.scalar, 4);
         let taken = self.legs.get(leg).is_some();
-        !taken && self.standing.holds(open.slot) && !self.standing.holds(leg.holder()) && room
+        !taken && self.standing.holds(open.slot) && !self.standing.holds(holder(leg)) && room
     }
 
     // The scalar times √2^k·w^m, where its power stays in reach.
     fn scaled(&self, k: i32, m: Turn) -> Option<Scalar>
-        ensures { MatchOption result (can_scale k m.eighths (shape self.now) ≡ false) (λ s. (can_scale k m.eighths (shape self.now) ≡ true) × (scale_of s ≡ product k m.eighths (shape self.now).scalar)) }
+        ensures { MatchOption result (can_scale k m.parts (shape self.now) ≡ false) (λ s. (can_scale k m.parts (shape self.now) ≡ true) × (scale_of s ≡ product k m.parts (shape self.now).scalar)) }
     {
         let scalar = self.scalar.times(k, m)?;
-        if self.reach(scalar) <= REACH as usize {
-            Some(scalar)
-        } else {
-            None
-        }
+        self.has_room(scalar, 0).then_some(scalar)
     }
 
     fn place(&mut self, slot: Slot, phase: Phase)
-        ensures { shape self.new ≡ placed slot.number phase.quarters (shape self.old) }
+        ensures { shape self.new ≡ placed slot.number phase.parts (shape self.old) }
     {
         self.standing.insert(slot);
         self.phases.set(slot, phase);
@@ -124,7 +125,7 @@ impl Table {
     }
 
     fn turn(&mut self, set: &Row, phase: Phase)
-        ensures { shape self.new ≡ gained (has set.now) phase.quarters (shape self.old) }
+        ensures { shape self.new ≡ gained (has set.now) phase.parts (shape self.old) }
     {
         let mut spiders = *set;
         spiders.intersect(&self.standing);
@@ -154,7 +155,8 @@ impl Table {
     }
 
     fn fuse(&mut self, a: Slot, b: Slot)
-        requires { (Sound (shape self.old)) × ((a.number ≢ b.number)) }
+        requires sound { Sound (shape self.old) }
+        requires apart { a.number ≢ b.number }
         ensures { shape self.new ≡ fused a.number b.number (shape self.old) }
     {
         let of_b = self.links.neighbours(b);

@@ -1,5 +1,5 @@
 -- Graphs of Z spiders and Hadamard edges, and the sum over their bits. Assumes nothing.
-use Rattle.std.specs.Prelude.{◌≡◌, ℕ, zero, suc, ◌+◌, ◌*◌, Bool, true, false, cond, ◌==◌}
+use Rattle.std.specs.Prelude.{◌≡◌, ℕ, zero, suc, ◌+◌, ◌*◌, Bool, true, false, if◌then◌else◌, ◌==◌}
 use Rattle.amounts.specs.Amounts.{Amounts, turned}
 use Rattle.graphs.specs.Counts.{bit, total, pairs}
 
@@ -18,16 +18,16 @@ none_set k = false
 
 -- the bits x with the bit of slot u set
 abbrev pub put : Bits → ℕ → Bits
-put x u k = cond (k == u) true (x k)
+put x u k = if k == u then true else x k
 
 -- the slots that stand without u
 abbrev pub without : (ℕ → Bool) → ℕ → ℕ → Bool
-without stands u k = cond (k == u) false (stands k)
+without stands u k = if k == u then false else stands k
 
 -- the sum of F over the assignments that set no slot from n on and none where nothing stands
 unfoldable pub sum : (A : Amounts) → ℕ → (ℕ → Bool) → (Bits → A.Amount) → A.Amount
 sum A zero stands F = F none_set
-sum A (suc n) stands F = cond (stands n) (A.add (sum A n stands F) (sum A n stands (λ x. F (put x n)))) (sum A n stands F)
+sum A (suc n) stands F = if stands n then A.add (sum A n stands F) (sum A n stands (λ x. F (put x n))) else sum A n stands F
 
 -- the quarter turns of a term: the phase of each slot that is set, and two for each edge between two
 unfoldable pub turns : ℕ → Graph → Bits → ℕ
@@ -50,4 +50,4 @@ pub record SoundGraph (n : ℕ) (G : Graph) : Type 0 where
 
 -- the eighth turns that complementing at phase p leaves: one at phase 1, and seven at phase 3
 abbrev pub odd_turn : ℕ → ℕ
-odd_turn p = cond (p == 1) 1 7
+odd_turn p = if p == 1 then 1 else 7

@@ -1,5 +1,5 @@
 -- The term of a graph as a product, factor by factor. Assumes nothing.
-use Rattle.std.specs.Prelude.{◌≡◌, ℕ, zero, suc, cond, ◌&&◌}
+use Rattle.std.specs.Prelude.{◌≡◌, ℕ, zero, suc, if◌then◌else◌, ◌&&◌}
 use Rattle.amounts.specs.Amounts.{Amounts, power, turned, quarter}
 use Rattle.graphs.specs.Graphs.{Graph, Bits, turns, quarters}
 
@@ -16,8 +16,8 @@ pair_product A (suc n) h = A.mul (pair_product A n h) (product A n (λ s. h s n)
 -- i^p for each slot of phase p that is set, and -1 for each edge between two that are
 abbrev pub literal : (A : Amounts) → ℕ → Graph → Bits → A.Amount
 literal A n G x =
-    A.mul (product A n (λ s. cond (x s) (power A (quarter A) (G.phase s)) A.one))
-    (pair_product A n (λ s t. cond (x s && x t && G.edge s t) (turned A 4) A.one))
+    A.mul (product A n (λ s. if x s then power A (quarter A) (G.phase s) else A.one))
+    (pair_product A n (λ s t. if x s && x t && G.edge s t then turned A 4 else A.one))
 
 -- the product is i to the power of the quarter turns
 abbrev pub TurnsAreLiteral : Amounts → Type 0

@@ -1,5 +1,5 @@
 -- The three rules as relations between a graph before and after. Assumes nothing.
-use Rattle.std.specs.Prelude.{◌≡◌, ℕ, ◌+◌, ◌-◌, ◌*◌, ◌%◌, ◌<◌, Bool, true, false, cond, ◌&&◌, ◌⊎◌, ◌==◌, ◌≢◌}
+use Rattle.std.specs.Prelude.{◌≡◌, ℕ, ◌+◌, ◌-◌, ◌*◌, ◌%◌, ◌<◌, Bool, true, false, if◌then◌else◌, ◌&&◌, ◌⊎◌, ◌==◌, ◌≢◌}
 use Rattle.amounts.specs.Amounts.{Amounts, turned, root_two}
 use Rattle.graphs.specs.Counts.{bit}
 use Rattle.graphs.specs.Graphs.{Graph, Bits, SoundGraph, put, without, graph_sum, odd_turn}
@@ -40,7 +40,7 @@ pub record Dropped (n u : ℕ) (G H : Graph) : Type 0 where
 
 -- removal pays √2² at phase 0, and makes all zero at phase 2
 abbrev pub drop_pays : (A : Amounts) → ℕ → A.Amount
-drop_pays A p = cond (p == 0) (A.mul (root_two A) (root_two A)) A.zero
+drop_pays A p = if p == 0 then A.mul (root_two A) (root_two A) else A.zero
 
 abbrev pub DropSound : Amounts → Type 0
 DropSound A =

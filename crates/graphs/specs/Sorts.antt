@@ -1,5 +1,5 @@
 -- The pivot's edges told by sorts of neighbours, and by local complementations. Assumes nothing.
-use Rattle.std.specs.Prelude.{◌≡◌, ℕ, ◌+◌, ◌*◌, Bool, true, false, cond, not, ◌&&◌, ◌||◌, ◌==◌, ◌≢◌}
+use Rattle.std.specs.Prelude.{◌≡◌, ℕ, ◌+◌, ◌*◌, Bool, true, false, if◌then◌else◌, not, ◌&&◌, ◌||◌, ◌==◌, ◌≢◌}
 use Rattle.graphs.specs.Counts.{bit}
 use Rattle.graphs.specs.Graphs.{Graph, SoundGraph}
 use Rattle.graphs.specs.Rules.{xor}
@@ -28,7 +28,7 @@ pub record BySorts : Type 0 where
 
 -- the edges after local complementation at u, which itself stays
 abbrev pub complemented_edges : (ℕ → ℕ → Bool) → ℕ → ℕ → ℕ → Bool
-complemented_edges e u s t = xor (e s t) (cond (s == t) false (e u s && e u t))
+complemented_edges e u s t = xor (e s t) (if s == t then false else e u s && e u t)
 
 -- a pivot at u and v leaves, between all other slots, the edges of three local complementations: at u,
 -- at v, and at u

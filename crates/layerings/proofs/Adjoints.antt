@@ -65,7 +65,7 @@ conj-spider false p h = conj-unit
 
 term-adjoint : (cs : List Colour) (is : List Item) (n : ℕ) (row : List Bool) (x : Bits) → term eighths cs (adjoint_items is) n row x ≡ conj (term eighths cs is n row x)
 term-adjoint cs [] n row x = sym conj-unit
-term-adjoint cs (Spider s ∷ is) n row x = ap₂ times (sym (conj-spider (x n) s.phase.quarters s.phase.bound)) (term-adjoint cs is (n + 1) row x) ∙ sym (conj-times _ _)
+term-adjoint cs (Spider s ∷ is) n row x = ap₂ times (sym (conj-spider (x n) s.phase.parts s.phase.bound)) (term-adjoint cs is (n + 1) row x) ∙ sym (conj-times _ _)
 term-adjoint cs (Wire w ∷ is) n row x = ap₂ times (sym (conj-joint (wire_kind cs w) (x w.first) (x w.second))) (term-adjoint cs is n row x) ∙ sym (conj-times _ _)
 term-adjoint cs (Leg l ∷ is) n row x = ap₂ times (sym (conj-joint (leg_kind cs l) (x l.spider) (leg_bit l.setting row))) (term-adjoint cs is n (row_after l.setting row) x) ∙ sym (conj-times _ _)
 term-adjoint cs (Factor f ∷ is) n row x = term-adjoint cs is n row x

@@ -39,7 +39,7 @@ module _ (ss : List Setting) where
   turns-held n (Spider s ∷ is) = turns-held n is
   turns-held n (Wire w ∷ is) = turns-held n is
   turns-held n (Leg l ∷ is) = turns-held (n + 1) is
-  turns-held n (Factor f ∷ is) = ap (λ m. f.m.eighths + m) (turns-held n is)
+  turns-held n (Factor f ∷ is) = ap (λ m. f.m.parts + m) (turns-held n is)
   turns-held n (Zero ∷ is) = turns-held n is
 
   -- a leg reads the same bit, and leaves the full row of the items after it

@@ -6,7 +6,7 @@ use Prim.Native.Nat.{ℕ, zero, suc, ◌-◌, ◌%◌}
 use native.Mathlib.Omega.{arith}
 use lib.ListN.{length}
 use Rattle.angles.specs.Angles.{phase, turn}
-use Rattle.angles.proofs.Same.{same-phase, same_turn}
+use Rattle.angles.proofs.Same.{same_angle}
 use Rattle.amounts.specs.Scalars.{Scaled}
 use Rattle.diagrams.specs.declared.items.Side.{Side}
 use Rattle.diagrams.specs.declared.items.Side.TheVariants.{Input, Output}
@@ -68,12 +68,12 @@ side-twice Output = refl
 item_twice : (i : Item) → adjoint_item (adjoint_item i) ≡ i
 item_twice (Spider s) =
     let low = s.phase.bound in
-    ap (λ p. Spider (record { colour = s.colour; phase = p })) (same-phase (phase (4 - (4 - s.phase.quarters) % 4)) s.phase (omega arith))
+    ap (λ p. Spider (record { colour = s.colour; phase = p })) (same_angle (phase (4 - (4 - s.phase.parts) % 4)) s.phase (omega arith))
 item_twice (Wire w) = refl
 item_twice (Leg l) = ap (λ s. Leg (record { side = s; spider = l.spider; kind = l.kind; setting = l.setting })) (side-twice l.side)
 item_twice (Factor f) =
     let low = f.m.bound in
-    ap (λ m. Factor (record { k = f.k; m = m })) (same_turn (turn (8 - (8 - f.m.eighths) % 8)) f.m (omega arith))
+    ap (λ m. Factor (record { k = f.k; m = m })) (same_angle (turn (8 - (8 - f.m.parts) % 8)) f.m (omega arith))
 item_twice Zero = refl
 
 two_adjoints : (is : List Item) → adjoint_items (adjoint_items is) ≡ is

@@ -1,5 +1,5 @@
 -- Layers piled on layers. Assumes nothing.
-use Rattle.std.specs.Prelude.{◌≡◌, Bool, true, false, cond, not, List, [], ◌∷◌, length}
+use Rattle.std.specs.Prelude.{◌≡◌, Bool, true, false, if◌then◌else◌, not, List, [], ◌∷◌, length}
 use Rattle.diagrams.specs.declared.items.Setting.{Setting}
 use Rattle.diagrams.specs.declared.items.Item.{Item}
 use Rattle.amounts.specs.Scalars.{Scaled}
@@ -85,7 +85,7 @@ pub record Piles : Type 0 where
   pub of_source : (steps : List LayerStep) (s : Stream) → through_stream steps s ≡ record { items = through steps s.items; ending = s.ending }
   pub of_layer : (s : LayerStep) (is : List Item) (row : List Bool) → amplitude (layered s is) row ≡ conjugated_by s (amplitude is (row_below s is row))
   pub of_pile : (steps : List LayerStep) (is : List Item) (row : List Bool) → amplitude (through steps is) row ≡ conjugated_through steps (amplitude is (row_through steps is row))
-  pub by_parity : (steps : List LayerStep) (x : Scaled) → conjugated_through steps x ≡ cond (odd_adjoints steps) (conjugate x) x
+  pub by_parity : (steps : List LayerStep) (x : Scaled) → conjugated_through steps x ≡ if odd_adjoints steps then conjugate x else x
   pub rows_fit : (steps : List LayerStep) (is : List Item) (row : List Bool) → length row ≡ open_items (through steps is) → length (row_through steps is row) ≡ open_items is
 
 -- two adjoints give back the same items, two holds are one, and an adjoint and a hold may change places; so

@@ -23,13 +23,13 @@ pub fn conjugation_is_an_automorphism()
 pub fn conjugate_coefficients(a: i32, b: i32, c: i32, d: i32) -> [i64; 4]
     ensures { result ≡ coefficients (conj (number a b c d)) }
 {
-    let (a, b, c, d) = (a as i64, b as i64, c as i64, d as i64);
+    let (a, b, c, d) = (i64::from(a), i64::from(b), i64::from(c), i64::from(d));
     [a, -d, -c, -b]
 }
 
 // The turns of the conjugate of √2^a·w^m, whatever a is.
 pub fn conjugate_turns(m: Turn) -> Turn
-    ensures { (a : ℕ) → scalar a result.eighths ≡ conj (scalar a m.eighths) }
+    ensures { (a : ℕ) → scalar a result.parts ≡ conj (scalar a m.parts) }
 {
     -m
 }

@@ -1,11 +1,11 @@
--- Past all settings, no leg is held, so that the count of legs may stay. Assumes nothing.
-use Rattle.std.proofs.Common.{◌≡◌, ℕ, ◌≤◌, Bool, true, false, cond, ltb, List, [], ◌∷◌, length, take, sym, refl, ap, ◌∙◌, ap₂, arith, ltb-false}
-use Rattle.std.proofs.lemmas.List.{length-take, get_or_past}
+-- Past all settings no leg is held, so that it does not matter by how much a number is past them. Assumes nothing.
+use Rattle.std.proofs.Common.{◌≡◌, ℕ, ◌≤◌, List, [], ◌∷◌, length, refl, ap, ◌∙◌, ap₂, arith}
+use Rattle.std.proofs.lemmas.List.{get_or_past}
 use Rattle.diagrams.specs.declared.items.Setting.{Setting}
 use Rattle.diagrams.specs.declared.items.Setting.TheVariants.{Open, HeldZero, HeldOne}
 use Rattle.diagrams.specs.declared.items.Item.{Item}
 use Rattle.diagrams.specs.declared.items.Item.TheVariants.{Spider, Wire, Leg, Factor, Zero}
-use Rattle.layers.specs.Holds.{over_setting, held_item, leg_after, held_items, leg_counted}
+use Rattle.layers.specs.Holds.{over_setting, held_item, leg_after, held_items}
 
 over_open : (s : Setting) → over_setting s Open ≡ s
 over_open Open = refl
@@ -32,15 +32,3 @@ held_past ss n [] h = refl
 held_past ss n (i ∷ is) h =
     let more = after_more n i in
     ap₂ (λ x xs. x ∷ xs) (ap (λ s. held_item s i) (get_or_past ss n Open h) ∙ held_open i) (held_past ss (leg_after n i) is (omega arith))
-
--- so it does not matter by how much a number is past them
-pub held-counted : (ss : List Setting) (count n : ℕ) (i : Item) (is : List Item) → held_items (take count ss) (leg_counted count n i) is ≡ held_items (take count ss) (leg_after n i) is
-held-counted ss count n i is = go (ltb n count) refl
-  where
-    go : (b : Bool) → ltb n count ≡ b → held_items (take count ss) (cond b (leg_after n i) n) is ≡ held_items (take count ss) (leg_after n i) is
-    go true e = refl
-    go false e =
-        let past = ltb-false n count e in
-        let long = length-take count ss in
-        let more = after_more n i in
-        held_past (take count ss) n is (omega arith) ∙ sym (held_past (take count ss) (leg_after n i) is (omega arith))

@@ -13,10 +13,10 @@ other_side Output = Input
 
 -- a phase p becomes -p, mod 4, and the turns m of a factor become -m, mod 8; a leg changes its side
 abbrev pub adjoint_item : Item → Item
-adjoint_item (Spider s) = Spider (record { colour = s.colour; phase = phase (4 - s.phase.quarters) })
+adjoint_item (Spider s) = Spider (record { colour = s.colour; phase = phase (4 - s.phase.parts) })
 adjoint_item (Wire w) = Wire w
 adjoint_item (Leg l) = Leg (record { side = other_side l.side; spider = l.spider; kind = l.kind; setting = l.setting })
-adjoint_item (Factor f) = Factor (record { k = f.k; m = turn (8 - f.m.eighths) })
+adjoint_item (Factor f) = Factor (record { k = f.k; m = turn (8 - f.m.parts) })
 adjoint_item Zero = Zero
 
 abbrev pub adjoint_items : List Item → List Item

@@ -1,5 +1,5 @@
 -- Holding the open legs of a list of items at the settings of a row. Assumes nothing.
-use Rattle.std.specs.Prelude.{ℕ, ◌+◌, cond, List, [], ◌∷◌, nat_lt, slice_index_or}
+use Rattle.std.specs.Prelude.{ℕ, ◌+◌, List, [], ◌∷◌, slice_index_or}
 use Rattle.diagrams.specs.Streams.{Stream}
 use Rattle.diagrams.specs.declared.items.Setting.{Setting}
 use Rattle.diagrams.specs.declared.items.Setting.TheVariants.{Open, HeldZero, HeldOne}
@@ -43,7 +43,3 @@ held_items ss n (i ∷ is) = held_item (setting_at ss n) i ∷ held_items ss (le
 -- every item with its leg held, and the same end
 abbrev pub held_stream : List Setting → ℕ → Stream → Stream
 held_stream ss n s = record { items = held_items ss n s.items; ending = s.ending }
-
--- the same number as it is counted: once it is past all settings it stays
-abbrev pub leg_counted : ℕ → ℕ → Item → ℕ
-leg_counted count n i = cond (nat_lt n count) (leg_after n i) n

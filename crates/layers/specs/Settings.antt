@@ -1,5 +1,5 @@
 -- Rows of settings: which are taken, and which settings their bytes stand for. Assumes nothing.
-use Rattle.std.specs.Prelude.{◌≡◌, ℕ, ◌+◌, ◌-◌, ◌<◌, ◌≤◌, Bool, true, false, cond, ◌||◌, ◌⊎◌, List, [], ◌∷◌, ◌++◌, map, length, take, replicate, Some, None, Ok, Err, Option, Result, ◌==◌, nat_le, nat_lt, slice_index}
+use Rattle.std.specs.Prelude.{◌≡◌, ℕ, ◌+◌, ◌-◌, ◌<◌, ◌≤◌, Bool, true, false, if◌then◌else◌, ◌||◌, ◌⊎◌, List, [], ◌∷◌, ◌++◌, map, length, take, replicate, Some, None, Ok, Err, Option, Result, ◌==◌, nat_le, nat_lt, slice_index}
 use Rattle.refusals.specs.declared.AskRefusal.{AskRefusal}
 use Rattle.refusals.specs.declared.AskRefusal.TheVariants.{HoldSetting}
 use Rattle.diagrams.specs.declared.items.Setting.{Setting}
@@ -12,7 +12,7 @@ settings_limit = 64
 
 -- the setting that a byte stands for: 0 and 1 hold a leg, and 2 leaves it open
 abbrev pub setting_of : ℕ → Setting
-setting_of b = cond (b == 0) HeldZero (cond (b == 1) HeldOne Open)
+setting_of b = if b == 0 then HeldZero else if b == 1 then HeldOne else Open
 
 -- a byte at a place is invalid: it is above 2, or the place is past the last
 abbrev pub invalid : ℕ → ℕ → Bool

@@ -20,21 +20,18 @@ fn adjoint_item(item: Item) -> Item
 {
     match item {
         Item::Spider(spider) => Item::Spider(Spider {
-            colour: spider.colour,
             phase: -spider.phase,
+            ..spider
         }),
-        Item::Wire(wire) => Item::Wire(wire),
         Item::Leg(leg) => Item::Leg(Leg {
             side: other_side(leg.side),
-            spider: leg.spider,
-            kind: leg.kind,
-            setting: leg.setting,
+            ..leg
         }),
         Item::Factor(factor) => Item::Factor(Factor {
-            k: factor.k,
             m: -factor.m,
+            ..factor
         }),
-        Item::Zero => Item::Zero,
+        Item::Wire(_) | Item::Zero => item,
     }
 }
 
@@ -56,9 +53,6 @@ impl<S: Source> Source for Adjoint<S> {
     ghost rest = { λ s. adjoint_stream (S.Source.rest s.below) };
 
     fn next(&mut self) -> Result<Option<Item>, Fault> {
-        let Some(item) = self.below.next()? else {
-            return Ok(None);
-        };
-        Ok(Some(adjoint_item(item)))
+        Ok(self.below.next()?.map(adjoint_item))
     }
 }

@@ -1,7 +1,7 @@
 // A row of settings for the legs of a diagram, judged before it is used.
-ghost use Rattle.std.specs.Prelude.{◌≡◌, ◌<◌, ◌≤◌, ◌⊎◌, map, MatchResult};
+ghost use Rattle.std.specs.Prelude.{◌≡◌, map, MatchResult};
 ghost use Rattle.layers.specs.Holds.{setting_at};
-ghost use Rattle.layers.specs.Settings.{settings_limit, setting_of, judged, settled, settings_in, AllValid, NamesFirst};
+ghost use Rattle.layers.specs.Settings.{setting_of, judged, settled, settings_in, AllValid, NamesFirst};
 
 use diagrams::items::Setting;
 use refusals::AskRefusal;
@@ -9,25 +9,21 @@ use refusals::AskRefusal;
 // How many settings a row may have.
 pub const SETTINGS_LIMIT: usize = 64;
 
-// The settings in order, and how many they are; open ones fill the table.
+// The settings in order, and how many they are; open ones fill the table. They stand in an array of fixed size, and
+// not in a Vec or an ArrayVec, since a row of settings is Copy and takes no heap.
 #[derive(Clone, Copy)]
 pub struct Settings {
-    table: [Setting; 64],
+    table: [Setting; SETTINGS_LIMIT],
     count: usize,
 }
 
 // The setting that the byte at a place of a row stands for.
 fn judged(place: usize, byte: u8) -> Result<Setting, AskRefusal>
-    ensures value { result ≡ judged place byte }
-    ensures bounds { MatchResult result (λ _. (place < settings_limit) × (byte ≤ 2)) (λ _. (settings_limit ≤ place) ⊎ (2 < byte)) }
+    ensures { result ≡ judged place byte }
 {
-    if place >= SETTINGS_LIMIT || byte > 2 {
-        return Err(AskRefusal::HoldSetting(place));
-    }
-    match byte {
-        0 => Ok(Setting::HeldZero),
-        1 => Ok(Setting::HeldOne),
-        _ => Ok(Setting::Open),
+    match Setting::try_from(byte) {
+        Ok(setting) if place < SETTINGS_LIMIT => Ok(setting),
+        _ => Err(AskRefusal::HoldSetting(place)),
     }
 }
 
@@ -38,10 +34,9 @@ impl Settings {
         ensures value { result ≡ settled row.now }
         ensures told { MatchResult result (λ s. AllValid row.now × (settings_in s ≡ map setting_of row.now)) (NamesFirst row.now) }
     {
-        let mut table = [Setting::Open; 64];
+        let mut table = [Setting::Open; SETTINGS_LIMIT];
         for (place, byte) in row.iter().enumerate() {
-            let setting = judged(place, *byte)?;
-            table[place] = setting;
+            table[place] = judged(place, *byte)?;
         }
         Ok(Settings {
             table,
@@ -60,12 +55,9 @@ impl Settings {
     pub fn at(&self, leg: usize) -> Setting
         ensures { result ≡ setting_at (settings_in self.now) leg }
     {
-        if leg >= self.count {
-            return Setting::Open;
-        }
         match self.table.get(leg) {
-            Some(setting) => *setting,
-            None => Setting::Open,
+            Some(setting) if leg < self.count => *setting,
+            _ => Setting::Open,
         }
     }
 }

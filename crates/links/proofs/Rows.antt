@@ -2,11 +2,8 @@
 use Rattle.std.proofs.Common.{◌≡◌, ℕ, suc, ◌<◌, Bool, true, false, cond, not, ◌&&◌, eqb, List, length, get_or, set, replicate, sym, refl, ap, ◌∙◌, ⊎_elim, arith, eqb-true}
 use Rattle.std.proofs.lemmas.List.{get_or-set_same, get_or-set_other, get_or_past, get_or-replicate, length-replicate}
 use Rattle.std.proofs.lemmas.Bool.Decides.{eqb_tells, leb_tells}
-use Rattle.graphs.specs.Counts.{bit, total}
 use Rattle.graphs.specs.Graphs.{without}
 use Rattle.graphs.specs.Rules.{xor}
-use Rattle.graphs.proofs.Sets.{total-without}
-use Rattle.graphs.proofs.Counting.{total-same}
 use Rattle.rows.specs.declared.row.Row.{Row}
 use Rattle.rows.specs.Rows.{has}
 use Rattle.rows.proofs.Words.{bit-none}
@@ -72,13 +69,6 @@ worked_all set left q none s t e = ap (λ b. xor e ((set s && not b) && q s t)) 
     and_true : (a : Bool) → a && true ≡ a
     and_true true = refl
     and_true false = refl
-
--- one slot fewer is left
-pub fewer_left : (left more : ℕ → Bool) (w : ℕ) → w < 320 → more w ≡ true → ((k : ℕ) → left k ≡ without more w k) → total 320 (λ k. bit (left k)) < total 320 (λ k. bit (more k))
-fewer_left left more w low on e =
-    let same = total-same 320 (λ k. bit (left k)) (λ k. bit (without more w k)) (λ k l. ap bit (e k)) in
-    let less = total-without 320 more w low on in
-    omega arith
 
 -- the slots of a set but s
 abbrev pub others_of : (ℕ → Bool) → ℕ → ℕ → Bool

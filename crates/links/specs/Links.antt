@@ -1,6 +1,7 @@
 -- The edges between slots, and the phases of slots, as rows of bits hold them. Assumes nothing.
-use Rattle.std.specs.Prelude.{ℕ, ◌+◌, ◌*◌, ◌%◌, Bool, [], ◌==◌, slice_index_or}
+use Rattle.std.specs.Prelude.{◌≡◌, ℕ, ◌+◌, ◌*◌, ◌%◌, Bool, [], ◌==◌, slice_index_or}
 use Rattle.graphs.specs.Counts.{bit}
+use Rattle.graphs.specs.Rules.{xor}
 use Rattle.rows.specs.declared.row.Row.{Row}
 use Rattle.rows.specs.Rows.{has}
 use Rattle.links.specs.declared.links.Links.{Links}
@@ -13,6 +14,10 @@ no_row = record { words = [] }
 -- whether slots s and t are joined
 unfoldable pub linked : Links → ℕ → ℕ → Bool
 linked l s t = has (slice_index_or l.rows s no_row) t
+
+-- what joins slots s and t is turned over where the test of them says so, and nowhere else
+abbrev pub Toggled : Links → Links → (ℕ → ℕ → Bool) → Type 0
+Toggled old new test = (s t : ℕ) → linked new s t ≡ xor (linked old s t) (test s t)
 
 -- the quarter turns of slot s: one where it is odd, and two where it has a half turn
 abbrev pub phase_at : Phases → ℕ → ℕ

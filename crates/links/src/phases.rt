@@ -1,5 +1,6 @@
 // The phases of slots: which are odd, and which have a half turn.
-ghost use Rattle.std.specs.Prelude.{◌≡◌, ℕ, ◌+◌, ◌%◌, if◌then◌else◌, nat_eq};
+ghost use Rattle.std.specs.Prelude.{◌≡◌, ℕ, ◌+◌, ◌*◌, ◌%◌, if◌then◌else◌, nat_eq};
+ghost use Rattle.graphs.specs.Counts.{bit};
 ghost use Rattle.rows.specs.Rows.{has};
 ghost use Rattle.links.specs.Links.{phase_at, odd_at};
 
@@ -7,10 +8,19 @@ use angles::Phase;
 use rows::row::Row;
 use rows::slot::Slot;
 
+// (Two rows of bits and no table of phases, so that a whole set is turned a word at a time.)
 #[derive(Clone, Copy)]
 pub struct Phases {
     odd: Row,
     half: Row,
+}
+
+// Whether a phase is odd, and whether it has a half turn.
+fn flags(phase: Phase) -> (bool, bool)
+    ensures { bit result.0 + 2 * bit result.1 ≡ phase.parts }
+{
+    let quarters = phase.quarters();
+    (quarters % 2 == 1, quarters >= 2)
 }
 
 impl Phases {
@@ -26,52 +36,42 @@ impl Phases {
     }
 
     pub fn at(&self, slot: Slot) -> Phase
-        ensures { result.quarters ≡ phase_at self.now slot.number }
+        ensures { result.parts ≡ phase_at self.now slot.number }
     {
-        match (self.odd.holds(slot), self.half.holds(slot)) {
-            (false, false) => Phase::of(0),
-            (true, false) => Phase::of(1),
-            (false, true) => Phase::of(2),
-            (true, true) => Phase::of(3),
-        }
+        let odd = self.odd.holds(slot);
+        let half = self.half.holds(slot);
+        Phase::of(u8::from(odd) + 2 * u8::from(half))
     }
 
     // The slots of odd phase.
     pub fn odd(&self) -> Row
         ensures { (s : ℕ) → has result s ≡ odd_at (phase_at self.now s) }
     {
-        let Phases { odd, .. } = *self;
-        odd
+        self.odd
     }
 
     // Turns every slot of a set.
     pub fn turn(&mut self, set: &Row, phase: Phase)
-        ensures { (s : ℕ) → phase_at self.new s ≡ (if has set.now s then (phase_at self.old s + phase.quarters) % 4 else phase_at self.old s) }
+        ensures { (s : ℕ) → phase_at self.new s ≡ (if has set.now s then (phase_at self.old s + phase.parts) % 4 else phase_at self.old s) }
     {
-        let quarters = phase.quarters();
-        if quarters % 2 == 1 {
+        let (odd, half) = flags(phase);
+        if odd {
             let mut carry = *set;
             carry.intersect(&self.odd);
             self.half.toggle_all(&carry);
             self.odd.toggle_all(set);
         }
-        if quarters >= 2 {
+        if half {
             self.half.toggle_all(set);
         }
     }
 
     // Sets the phase of one slot.
     pub fn set(&mut self, slot: Slot, phase: Phase)
-        ensures { (s : ℕ) → phase_at self.new s ≡ (if nat_eq s slot.number then phase.quarters else phase_at self.old s) }
+        ensures { (s : ℕ) → phase_at self.new s ≡ (if nat_eq s slot.number then phase.parts else phase_at self.old s) }
     {
-        let quarters = phase.quarters();
-        self.odd.remove(slot);
-        self.half.remove(slot);
-        if quarters % 2 == 1 {
-            self.odd.insert(slot);
-        }
-        if quarters >= 2 {
-            self.half.insert(slot);
-        }
+        let (odd, half) = flags(phase);
+        self.odd.put(slot, odd);
+        self.half.put(slot, half);
     }
 }

@@ -1,7 +1,6 @@
-pub mod Slots
-pub mod Multiples
+pub mod Givens
 pub mod Taking
-pub mod Colours
-pub mod Ends
 pub mod Legs
+pub mod Items
+pub mod Answers
 pub mod Loops

@@ -1,5 +1,5 @@
 -- What each item comes to, by the tests that it passes. Assumes nothing.
-use Rattle.std.proofs.Common.{◌≡◌, ℕ, min, max, Bool, true, false, cond, ◌&&◌, eqb, ltb, length, Ok, Err, Result, sym, refl, ap, ◌∙◌, subst}
+use Rattle.std.proofs.Common.{◌≡◌, ℕ, min, max, Bool, true, false, ◌&&◌, eqb, ltb, length, Result, sym, refl, ap, ◌∙◌, subst}
 use Rattle.refusals.specs.declared.LoadRefusal.{LoadRefusal}
 use Rattle.refusals.specs.declared.LoadRefusal.TheVariants.{UnknownSpider, TooManySpiders, TooManyLegs, ScalarOutOfRange}
 use Rattle.diagrams.specs.declared.items.Kind.TheVariants.{Plain}
@@ -8,11 +8,11 @@ use Rattle.diagrams.specs.declared.items.Wire.{Wire as WireData}
 use Rattle.diagrams.specs.declared.items.Leg.{Leg as LegData}
 use Rattle.diagrams.specs.declared.items.Item.TheVariants.{Spider, Wire, Leg}
 use Rattle.amplitudes.specs.Items.{wire_kind}
-use Rattle.models.specs.Models.{Model, spider_limit, leg_limit}
+use Rattle.models.specs.Models.{spider_limit, leg_limit}
 use Rattle.loadings.specs.Loadings.{Loading, Taken, goes_on, refuses, given, within, judged, taken, with_spider, with_wire, with_one_leg, with_fusion}
-use Rattle.loader.specs.declared.books.Books.{Books}
+use Rattle.loader.specs.declared.loading.Loading.{Loading as Loader}
 use Rattle.models.specs.Edits.{fused}
-use Rattle.loader.specs.Books.{loading_of, Roomy, Comes}
+use Rattle.loader.specs.States.{ComesTo}
 
 -- a test that is passed or failed decides
 abbrev either : Taken → Taken → Bool → Taken
@@ -68,13 +68,8 @@ module _ (s : Loading) where
   plain_between a b e = ap (apart s (with_fusion (min a b) (max a b) s)) e
 
 -- what an item comes to, once that is known
-pub comes : (q t : Taken) (n : ℕ) (r : Result Prim.Unit LoadRefusal) (b : Books) (m : Model) → q ≡ t → Comes t n r b m → Comes q n r b m
-comes q t n r b m e h = subst (λ (x : Taken). Comes x n r b m) (sym e) h
-
--- an item that is judged: taken where the scalar is within the limit, and refused where it is not
-pub judged_comes : (t : Loading) (w : Bool) (n : ℕ) (b : Books) (m : Model) → w ≡ within t.model.scalar → (w ≡ true → loading_of b m ≡ t) → Roomy b → Comes (judged t) n (cond w (Ok tt) (Err (ScalarOutOfRange n))) b m
-judged_comes t true n b m e f r = comes (judged t) (goes_on t) n (Ok tt) b m (judged-within t (sym e)) (refl, f refl, r)
-judged_comes t false n b m e f r = comes (judged t) (refuses ScalarOutOfRange) n (Err (ScalarOutOfRange n)) b m (judged_beyond t (sym e)) refl
+pub comes : (q t : Taken) (n next : ℕ) (r : Result Prim.Unit LoadRefusal) (l : Loader) → q ≡ t → ComesTo t n next r l → ComesTo q n next r l
+comes q t n next r l e h = subst (λ (x : Taken). ComesTo x n next r l) (sym e) h
 
 -- a plain wire leaves the scalar as it is
 pub plain_scalar : (s : Loading) (a b : ℕ) → (with_wire Plain a b s).model.scalar ≡ s.model.scalar

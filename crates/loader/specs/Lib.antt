@@ -1,3 +1,5 @@
-pub mod Books
+pub mod Givens
 pub mod Legs
 pub mod Loads
+pub mod States
+pub mod Points

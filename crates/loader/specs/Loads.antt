@@ -1,9 +1,6 @@
 -- What loading a source answers and leaves. Assumes nothing.
-use Rattle.std.specs.Prelude.{ℕ, Ok, Err, Option, Result}
+use Rattle.std.specs.Prelude.{Ok, Err, Result}
 use Rattle.refusals.specs.declared.LoadRefusal.{LoadRefusal}
-use Rattle.refusals.specs.declared.LoadRefusal.TheVariants.{Unreadable}
-use Rattle.refusals.specs.declared.Fault.{Fault}
-use Rattle.diagrams.specs.declared.items.Item.{Item}
 use Rattle.diagrams.specs.Streams.{Stream}
 use Rattle.models.specs.Models.{Model}
 use Rattle.models.specs.Edits.{blank}
@@ -21,8 +18,3 @@ model_of (refused why s) = blank
 abbrev pub left_of : Loaded → Stream
 left_of (accepted m s) = s
 left_of (refused why s) = s
-
--- what a source answers, a fault with the number of the item asked for
-abbrev pub numbered_by : Result (Option Item) Fault → ℕ → Result (Option Item) LoadRefusal
-numbered_by (Ok i) n = Ok i
-numbered_by (Err f) n = Err (Unreadable f n)

@@ -1,5 +1,6 @@
 // Loading: a source's items become a working diagram, or a refusal.
 #![tactic(auto)]
 
-mod books;
+mod given;
 pub mod load;
+mod loading;

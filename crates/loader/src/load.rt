@@ -2,41 +2,28 @@
 ghost use Rattle.std.specs.Prelude.{◌≡◌, MatchResult};
 ghost use Rattle.refusals.specs.declared.LoadRefusal.{LoadRefusal};
 ghost use Rattle.models.specs.Edits.{blank};
-ghost use Rattle.loadings.specs.Loadings.{loaded};
+ghost use Rattle.loadings.specs.Loadings.{loaded, accepted, refused};
 ghost use Rattle.loadings.specs.Laws.{KeptByLoading};
 ghost use Rattle.graphlike.specs.Diagrams.{model};
-ghost use Rattle.loader.specs.Loads.{answer_of, model_of, left_of, numbered_by};
+ghost use Rattle.loader.specs.Loads.{answer_of, model_of, left_of};
 
-use crate::books::Books;
-use diagrams::items::Item;
+use crate::loading::Loading;
 use diagrams::source::Source;
 use graphlike::Diagram;
-use refusals::{Fault, LoadRefusal};
+use refusals::LoadRefusal;
 
-// What a source answers, a fault with the number of the item asked for.
-fn numbered(answer: Result<Option<Item>, Fault>, number: u32) -> Result<Option<Item>, LoadRefusal>
-    ensures { result ≡ numbered_by answer number }
+// The diagram of all items.
+fn take_all<S: Source>(source: &mut S) -> Result<Diagram, LoadRefusal>
+    ensures { MatchResult result (λ d. loaded (S.Source.rest source.old) ≡ accepted (model d) (S.Source.rest source.new)) (λ e. loaded (S.Source.rest source.old) ≡ refused e (S.Source.rest source.new)) }
 {
-    match answer {
-        Ok(item) => Ok(item),
-        Err(fault) => Err(LoadRefusal::Unreadable(fault, number)),
+    let mut loading = Loading::new();
+    while let Some(item) = source
+        .next()
+        .map_err(|fault| LoadRefusal::Unreadable(fault, loading.item))?
+    {
+        loading.take(item)?;
     }
-}
-
-// Takes all items into a diagram of nothing.
-fn take_all<S: Source>(diagram: &mut Diagram, source: &mut S) -> Result<(), LoadRefusal>
-    requires { model diagram.old ≡ blank }
-    ensures value { result ≡ answer_of (loaded (S.Source.rest source.old)) }
-    ensures after { MatchResult result (λ _. model diagram.new ≡ model_of (loaded (S.Source.rest source.old))) (λ _. model_of (loaded (S.Source.rest source.old)) ≡ blank) }
-    ensures left { S.Source.rest source.new ≡ left_of (loaded (S.Source.rest source.old)) }
-{
-    let mut books = Books::new();
-    let mut number = 0u32;
-    while let Some(item) = numbered(source.next(), number)? {
-        books.take(diagram, item, number)?;
-        number = number.saturating_add(1);
-    }
-    Ok(())
+    Ok(loading.diagram)
 }
 
 // Empties the diagram, and takes the items of the source up to its end, a fault or a refusal. A diagram that is
@@ -48,9 +35,6 @@ pub fn load<S: Source>(diagram: &mut Diagram, source: &mut S) -> Result<(), Load
     ensures kept { MatchResult result (λ _. KeptByLoading (S.Source.rest source.old).items (model diagram.new)) (λ _. model diagram.new ≡ blank) }
 {
     *diagram = Diagram::new();
-    let outcome = take_all(diagram, source);
-    if outcome.is_err() {
-        *diagram = Diagram::new();
-    }
-    outcome
+    *diagram = take_all(source)?;
+    Ok(())
 }

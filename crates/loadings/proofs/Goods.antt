@@ -59,7 +59,7 @@ module _ (s : Loading) (good : Good s) where
       let n = length s.colours in
       let more : length (s.colours ++ (d.colour ∷ [])) ≡ n + 1 = length-append s.colours (d.colour ∷ []) in
       record {
-        sound = placed-sound n d.phase.quarters d.phase.bound good.sound (can_place_next s good h);
+        sound = placed-sound n d.phase.parts d.phase.bound good.sound (can_place_next s good h);
         few = omega arith;
         few_legs = good.few_legs;
         untaken = λ k i j. ap (λ e. cond e true (s.model.graph.stands k)) (ne_eqb k n (λ e. omega arith)) ∙ good.untaken k (omega arith) j;

@@ -112,9 +112,9 @@ module _ (s : Loading) (good : Good s) (cs : List Colour) (is : List Item) (row 
         subst (λ kind. Same (valued s.model.scalar (cost kind +ℤ K) M (leg_at kind (leg_bit d.setting rest) (row_after d.setting rest))) (value (with_one_leg d s) cs is row)) (sym same)
         (same-leg (leg_kind s.colours d) d.setting)
 
-  value_factor : (f : FactorData) → value s cs (Factor f ∷ is) row ≡ value (with_model s (scaled f.k.exponent f.m.eighths s.model)) cs is row
+  value_factor : (f : FactorData) → value s cs (Factor f ∷ is) row ≡ value (with_model s (scaled f.k.exponent f.m.parts s.model)) cs is row
   unfolding scaled
-  value_factor f = valued_product f.k.exponent f.m.eighths s.model.scalar K M _
+  value_factor f = valued_product f.k.exponent f.m.parts s.model.scalar K M _
 
   -- nothing but zeros
   whole-zero : whole eighths s cs (Zero ∷ is) row ≡ none

@@ -59,7 +59,7 @@ module _ (s t : Loading) where
       here false b f g q = absurd (never_on UnknownSpider t q)
 
   abbrev factored : FactorData → Loading
-  factored f = with_model s (scaled f.k.exponent f.m.eighths s.model)
+  factored f = with_model s (scaled f.k.exponent f.m.parts s.model)
 
   pub factor_taken : (f : FactorData) → taken s (Factor f) ≡ goes_on t → (within (factored f).model.scalar ≡ true) × (factored f ≡ t)
   factor_taken f e = judged_on (factored f) t e
@@ -71,5 +71,5 @@ module _ (s t : Loading) where
   good_taken (Spider d) good e = let on = spider-taken d e in subst Good on.1 (good_spider s good d on.0)
   good_taken (Wire d) good e = let on = wire-taken d e in subst Good on.3 (good_wire s good (wire_kind s.colours d) d.first d.second on.0 on.1 on.2)
   good_taken (Leg d) good e = let on = leg-taken d e in subst Good on.3 (good_leg s good d on.0 on.1 on.2)
-  good_taken (Factor f) good e = let on = factor_taken f e in subst Good on.1 (good_scaled s good f.k.exponent f.m.eighths on.0)
+  good_taken (Factor f) good e = let on = factor_taken f e in subst Good on.1 (good_scaled s good f.k.exponent f.m.parts on.0)
   good_taken Zero good e = subst Good (zero-taken e) (good_zeroed s good)

@@ -62,7 +62,7 @@ module _ (A : Amounts) (laws : Lawful A) where
         c = length cs
 
         q : ℕ
-        q = d.phase.quarters
+        q = d.phase.parts
 
         P : ℕ → Bool
         P = awaited s.model.graph.stands n c

@@ -1,5 +1,5 @@
 -- Loading: which working diagram the items of a stream make, or why they make none. Assumes nothing.
-use Rattle.std.specs.Prelude.{ℕ, ◌+◌, ◌-◌, ◌^◌, min, max, Bool, true, false, cond, ◌&&◌, List, [], ◌∷◌, ◌++◌, length, negsuc, ◌==◌, nat_le, nat_lt, unsigned_abs}
+use Rattle.std.specs.Prelude.{ℕ, ◌+◌, ◌-◌, ◌^◌, min, max, Bool, true, false, if◌then◌else◌, ◌&&◌, List, [], ◌∷◌, ◌++◌, length, negsuc, ◌==◌, nat_le, nat_lt, unsigned_abs}
 use Rattle.refusals.specs.declared.LoadRefusal.{LoadRefusal}
 use Rattle.refusals.specs.declared.LoadRefusal.TheVariants.{Unreadable, UnknownSpider, TooManySpiders, TooManyLegs, ScalarOutOfRange}
 use Rattle.diagrams.specs.Limits.{limit}
@@ -35,7 +35,7 @@ with_model s m = record { model = m; colours = s.colours; place = s.place; legs 
 -- a spider takes the slot of its number
 abbrev pub with_spider : SpiderData → Loading → Loading
 with_spider d s = record {
-  model = placed (length s.colours) d.phase.quarters s.model;
+  model = placed (length s.colours) d.phase.parts s.model;
   colours = s.colours ++ (d.colour ∷ []);
   place = s.place;
   legs = s.legs;
@@ -48,7 +48,7 @@ paid Hadamard m = scaled (negsuc 0) 0 m
 
 -- the spiders of slot b are in slot a
 abbrev pub placed_again : ℕ → ℕ → (ℕ → ℕ) → ℕ → ℕ
-placed_again a b place n = cond (place n == b) a (place n)
+placed_again a b place n = if place n == b then a else place n
 
 -- two slots become one
 abbrev pub with_fusion : ℕ → ℕ → Loading → Loading
@@ -102,7 +102,7 @@ taken s (Leg d) = elim (given s d.spider) [
   | false ↦ refuses UnknownSpider
   | true ↦ elim (nat_lt s.legs leg_limit) [ false ↦ refuses TooManyLegs | true ↦ judged (with_one_leg d s) ]
 ]
-taken s (Factor f) = judged (with_model s (scaled f.k.exponent f.m.eighths s.model))
+taken s (Factor f) = judged (with_model s (scaled f.k.exponent f.m.parts s.model))
 taken s Zero = goes_on (with_model s (zeroed s.model))
 
 -- item numbers stop at the largest

@@ -1,5 +1,5 @@
 -- What the gates of a circuit do to a state, and that this is the circuit's amplitude. Assumes nothing.
-use Rattle.std.specs.Prelude.{◌≡◌, ℕ, zero, suc, ◌+◌, ◌≤◌, Bool, true, false, cond, not, ◌&&◌, List, [], ◌∷◌, ◌++◌, map, pos, neg_ℤ, ◌==◌}
+use Rattle.std.specs.Prelude.{◌≡◌, ℕ, zero, suc, ◌+◌, ◌≤◌, Bool, true, false, if◌then◌else◌, not, ◌&&◌, List, [], ◌∷◌, ◌++◌, map, pos, neg_ℤ, ◌==◌}
 use Rattle.std.specs.List.{range_with_len, AllByRecursion}
 use Rattle.amounts.specs.Amounts.{Amounts, turned}
 use Rattle.amounts.specs.Eighths.{eighths}
@@ -20,11 +20,11 @@ use Rattle.circuits.specs.Spelling.{Valid, Spells}
 
 -- the function f with the value v at q
 abbrev pub changed : {T : Type 0} → (ℕ → T) → ℕ → T → ℕ → T
-changed f q v r = cond (r == q) v (f r)
+changed f q v r = if r == q then v else f r
 
 -- w^m where the bit is 1, else one
 abbrev pub turned_at : (A : Amounts) → ℕ → Bool → A.Amount
-turned_at A m b = cond b (turned A m) A.one
+turned_at A m b = if b then turned A m else A.one
 
 -- what a gate on one qubit does to a state of it, an amount for each bit; -1 is w⁴, and the Hadamard
 -- gate is not normalised
@@ -53,11 +53,11 @@ act_all A (g ∷ gs) state = act_all A gs (act A g state)
 -- whether two rows agree on n qubits
 abbrev pub agree : ℕ → Bits → Bits → Bool
 agree zero a y = true
-agree (suc n) a y = cond (xor (a n) (y n)) false (agree n a y)
+agree (suc n) a y = if xor (a n) (y n) then false else agree n a y
 
 -- the state that is one at the rows that agree with a on n qubits, and zero at all others
 abbrev pub indicator : (A : Amounts) → ℕ → Bits → Bits → A.Amount
-indicator A n a y = cond (agree n a y) A.one A.zero
+indicator A n a y = if agree n a y then A.one else A.zero
 
 -- how many Hadamard gates there are
 abbrev pub is_hadamard : Single → ℕ

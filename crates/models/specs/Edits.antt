@@ -1,5 +1,5 @@
 -- Changes of a working diagram, and when each can be made. Assumes nothing.
-use Rattle.std.specs.Prelude.{ℕ, ◌+◌, ◌-◌, ◌*◌, ◌%◌, Bool, true, false, cond, not, ◌&&◌, ◌||◌, ℤ, pos, negsuc, ◌+ℤ◌, is_some, Some, None, Option, ◌==◌, nat_le, nat_lt}
+use Rattle.std.specs.Prelude.{ℕ, ◌+◌, ◌-◌, ◌*◌, ◌%◌, Bool, true, false, if◌then◌else◌, not, ◌&&◌, ◌||◌, ℤ, pos, negsuc, ◌+ℤ◌, is_some, Some, None, Option, ◌==◌, nat_le, nat_lt}
 use Rattle.graphs.specs.Counts.{bit}
 use Rattle.graphs.specs.Graphs.{Graph, without, put}
 use Rattle.graphs.specs.Rules.{xor}
@@ -28,7 +28,7 @@ abbrev pub can_place : ℕ → Model → Bool
 can_place s m = nat_lt s slots && (not (m.graph.stands s) && (not (reserved m s) && nat_le (reach m + 2) reach_limit))
 
 unfoldable pub placed : ℕ → ℕ → Model → Model
-placed s p m = with_graph m (record { stands = put m.graph.stands s; phase = λ k. cond (k == s) p (m.graph.phase k); edge = m.graph.edge })
+placed s p m = with_graph m (record { stands = put m.graph.stands s; phase = λ k. if k == s then p else m.graph.phase k; edge = m.graph.edge })
 
 -- the spider of slot s goes, and its edges with it
 abbrev pub can_remove : ℕ → Model → Bool
@@ -37,15 +37,15 @@ can_remove s m = not (carries m s)
 unfoldable pub removed : ℕ → Model → Model
 removed s m = with_graph m (record {
   stands = without m.graph.stands s;
-  phase = λ k. cond (k == s) 0 (m.graph.phase k);
-  edge = λ k j. cond (k == s || j == s) false (m.graph.edge k j);
+  phase = λ k. if k == s then 0 else m.graph.phase k;
+  edge = λ k j. if k == s || j == s then false else m.graph.edge k j;
 })
 
 -- every spider of a set of slots gains p quarter turns
 unfoldable pub gained : (ℕ → Bool) → ℕ → Model → Model
 gained r p m = with_graph m (record {
   stands = m.graph.stands;
-  phase = λ k. cond (r k && m.graph.stands k) ((m.graph.phase k + p) % 4) (m.graph.phase k);
+  phase = λ k. if r k && m.graph.stands k then (m.graph.phase k + p) % 4 else m.graph.phase k;
   edge = m.graph.edge;
 })
 
@@ -104,14 +104,14 @@ can_fuse a b m = can_join a b m
 
 abbrev pub led : ℕ → ℕ → Option ModelLeg → Option ModelLeg
 led a b None = None
-led a b (Some o) = Some (record { side = o.side; slot = cond (o.slot == b) a o.slot; kind = o.kind })
+led a b (Some o) = Some (record { side = o.side; slot = if o.slot == b then a else o.slot; kind = o.kind })
 
 unfoldable pub fused : ℕ → ℕ → Model → Model
 fused a b m = record {
   graph = record {
     stands = without m.graph.stands b;
-    phase = λ k. cond (k == b) 0 (cond (k == a) ((m.graph.phase a + (m.graph.phase b + 2 * bit (m.graph.edge a b))) % 4) (m.graph.phase k));
-    edge = λ s t. cond (s == b || (t == b || s == t)) false (xor (m.graph.edge s t) (xor (s == a && m.graph.edge b t) (t == a && m.graph.edge b s)));
+    phase = λ k. if k == b then 0 else if k == a then (m.graph.phase a + (m.graph.phase b + 2 * bit (m.graph.edge a b))) % 4 else m.graph.phase k;
+    edge = λ s t. if s == b || (t == b || s == t) then false else xor (m.graph.edge s t) (xor (s == a && m.graph.edge b t) (t == a && m.graph.edge b s));
   };
   leg = λ l. led a b (m.leg l);
   scalar = m.scalar;
@@ -122,7 +122,7 @@ abbrev pub can_attach : ℕ → ModelLeg → Model → Bool
 can_attach l o m = nat_lt l leg_limit && (not (is_some (m.leg l)) && (m.graph.stands o.slot && (not (m.graph.stands (spider_limit + l)) && nat_le (reach m + 4) reach_limit)))
 
 abbrev pub with_leg : ℕ → Option ModelLeg → Model → Model
-with_leg l o m = record { graph = m.graph; leg = λ k. cond (k == l) o (m.leg k); scalar = m.scalar }
+with_leg l o m = record { graph = m.graph; leg = λ k. if k == l then o else m.leg k; scalar = m.scalar }
 
 unfoldable pub attached : ℕ → ModelLeg → Model → Model
 attached l o m = with_leg l (Some o) m
@@ -139,7 +139,7 @@ held s Plain l b m = scaled (negsuc 1) 0 (toggled (spider_limit + l) s (placed (
 
 -- the same by edits each of which is made only where it can be
 abbrev pub if_can : Bool → Model → Model → Model
-if_can b n m = cond b n m
+if_can b n m = if b then n else m
 
 abbrev pub with_holder : ℕ → ℕ → Bool → Model → Model
 with_holder s l b m =

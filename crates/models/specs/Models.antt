@@ -1,6 +1,6 @@
 -- The working diagram as mathematics: a graph of Z spiders and Hadamard edges over numbered slots, open
 -- legs by number, and a scalar; what holds of it at all times, and its amplitude at a row. Assumes nothing.
-use Rattle.std.specs.Prelude.{◌≡◌, ℕ, zero, suc, ◌+◌, ◌*◌, ◌<◌, ◌≤◌, Bool, true, false, cond, List, [], ◌∷◌, length, ℤ, pos, Some, None, Option, ◌==◌, unsigned_abs}
+use Rattle.std.specs.Prelude.{◌≡◌, ℕ, zero, suc, ◌+◌, ◌*◌, ◌<◌, ◌≤◌, Bool, true, false, if◌then◌else◌, List, [], ◌∷◌, length, ℤ, pos, Some, None, Option, ◌==◌, unsigned_abs}
 use Rattle.amounts.specs.Amounts.{Amounts, turned}
 use Rattle.amounts.specs.Eighths.{Eighths, eighths, none, times}
 use Rattle.amounts.specs.Scalars.{Scaled}
@@ -64,7 +64,7 @@ on_slot s (Some o) = o.slot == s
 
 unfoldable pub carried : ℕ → (ℕ → Option ModelLeg) → ℕ → Bool
 carried zero leg s = false
-carried (suc n) leg s = cond (on_slot s (leg n)) true (carried n leg s)
+carried (suc n) leg s = if on_slot s (leg n) then true else carried n leg s
 
 -- whether slot s has an open leg; a spider that has none is interior
 abbrev pub carries : Model → ℕ → Bool

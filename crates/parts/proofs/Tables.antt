@@ -1,5 +1,6 @@
 -- The legs of a table after one is written, and what a count of none says. Assumes nothing.
 use Rattle.std.proofs.Common.{◌≡◌, ℕ, zero, suc, ◌+◌, ◌<◌, ◌≤◌, Bool, true, false, cond, eqb, ltb, List, [], length, get_or, set, replicate, is_some, Some, None, Option, sym, refl, ap, ◌∙◌, ⊎_elim, arith, ltb-false, le-ltb, lt-ltb, eq-eqb, ne_eqb, eqb-true}
+use mir.Val.{bool_byte}
 use borrow.Author.Tests.{eqb-false}
 use Rattle.std.proofs.lemmas.List.{get_or-set_same, get_or-set_other, get_or-replicate, get_or_past, get_or_default, length-replicate}
 use Rattle.std.proofs.lemmas.Bool.Decides.{eqb_tells, leb_tells}
@@ -78,6 +79,11 @@ counted_most n l j f h i =
     let less = recounted n l j f (λ k. cond (eqb k j) None (f k)) h i (λ k ne. ap (λ b. cond b None (f k)) (ne_eqb k j ne)) in
     let none : bit (is_some (cond (eqb j j) None (f j))) ≡ 0 = ap (λ b. bit (is_some (cond b None (f j)))) (eq-eqb j j refl) in
     omega arith
+
+-- a flag as a number
+pub bit_of_flag : (b : Bool) → bool_byte b ≡ bit b
+bit_of_flag true = refl
+bit_of_flag false = refl
 
 -- whether a leg is on a slot, one leg more
 pub carried-more : (n : ℕ) (leg : ℕ → Option ModelLeg) (s : ℕ) → carried (suc n) leg s ≡ cond (on_slot s (leg n)) true (carried n leg s)

@@ -5,4 +5,4 @@ use Rattle.parts.specs.declared.scalar.Scalar.TheVariants.{Zero, Root}
 
 abbrev pub scale_of : Scalar → Scale
 scale_of Zero = nothing
-scale_of (Root k m) = root k m.eighths
+scale_of (Root k m) = root k m.parts

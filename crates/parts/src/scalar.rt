@@ -11,6 +11,7 @@ use std::ops::Add;
 // goes, and 4 for each of 64 legs.
 pub const REACH: u32 = 30_896;
 
+// An enum of its own and no Option: zero is a value of the scalar, and no lack of one.
 #[derive(Clone, Copy, Debug, PartialEq, Eq)]
 pub enum Scalar {
     Zero,
@@ -29,9 +30,10 @@ impl Scalar {
         }
     }
 
-    // The scalar times √2^k·w^m, or none where its power would be out of reach. Zero stays zero.
+    // The scalar times √2^k·w^m, or none where its power would be out of reach. Zero stays zero. (k and m are two
+    // arguments, as they are of `product`: a `Factor`, which holds both, takes no k beyond the limit of an item.)
     pub fn times(self, k: i32, m: Turn) -> Option<Scalar>
-        ensures { MatchOption result (reach_limit < size (product k m.eighths (scale_of self))) (λ s. (scale_of s ≡ product k m.eighths (scale_of self)) × (size (scale_of s) ≤ reach_limit)) }
+        ensures { MatchOption result (reach_limit < size (product k m.parts (scale_of self))) (λ s. (scale_of s ≡ product k m.parts (scale_of self)) × (size (scale_of s) ≤ reach_limit)) }
     {
         match self {
             Scalar::Zero => Some(Scalar::Zero),

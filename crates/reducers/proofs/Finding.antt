@@ -1,5 +1,7 @@
 -- What is found in a set of slots, and what a rule's scalar leaves in reach. Assumes nothing.
-use Rattle.std.proofs.Common.{◌≡◌, ℕ, ◌<◌, ◌≤◌, Bool, true, false, cond, ℤ, Some, None, sym, ap, ◌∙◌, subst, arith, le-leb}
+use Rattle.std.proofs.Common.{◌≡◌, ℕ, ◌<◌, ◌≤◌, Bool, true, false, cond, ◌&&◌, ℤ, Some, None, Option, sym, refl, ap, ◌∙◌, ap₂, subst, arith, le-leb, MatchOption}
+use Rattle.std.specs.Option.{option_map}
+use Rattle.rows.specs.declared.slot.Below.{Below}
 use Rattle.models.specs.Models.{Model, Sound, reach, reach_limit}
 use Rattle.models.specs.Edits.{scaled, can_scale}
 use Rattle.reductions.specs.Runs.{first_from}
@@ -11,6 +13,20 @@ lowest_is n p k low here before = sym (first_is n 0 p k (record { passes = here;
 
 pub absent_is : (n : ℕ) (p : ℕ → Bool) → ((i : ℕ) → i < n → p i ≡ false) → None ≡ first_from n 0 p
 absent_is n p none = sym (first_absent n 0 p (λ k a b. none k (omega arith)))
+
+-- the number of the lowest slot of a set is the first that passes
+pub first_number_is : (p : ℕ → Bool) (o : Option (Below 320)) → MatchOption o ((k : ℕ) → p k ≡ false) (λ s. (p s.number ≡ true) × ((k : ℕ) → k < s.number → p k ≡ false)) → option_map (λ s. s.number) o ≡ first_from 320 0 p
+first_number_is p None h = absent_is 320 p (λ k l. h k)
+first_number_is p (Some s) h = lowest_is 320 p s.number s.bound h.0 h.1
+
+off : (e a : Bool) → (e ≡ true → a ≡ false) → e && a ≡ false
+off true a h = h refl
+off false a h = refl
+
+-- the same of the lowest that passes among those of a set
+pub first_within_is : (p e a : ℕ → Bool) → ((k : ℕ) → p k ≡ e k && a k) → (o : Option (Below 320)) → MatchOption o ((k : ℕ) → e k ≡ true → a k ≡ false) (λ s. (a s.number ≡ true) × (e s.number ≡ true) × ((k : ℕ) → k < s.number → e k ≡ true → a k ≡ false)) → option_map (λ s. s.number) o ≡ first_from 320 0 p
+first_within_is p e a same None h = first_number_is p None (λ k. same k ∙ off (e k) (a k) (h k))
+first_within_is p e a same (Some s) h = first_number_is p (Some s) (same s.number ∙ ap₂ ◌&&◌ h.1 h.0, λ k l. same k ∙ off (e k) (a k) (h.2 k l))
 
 -- a scalar can be multiplied where a sound diagram comes out
 pub scale_fits : (k : ℤ) (t : ℕ) (m n : Model) → scaled k t m ≡ n → Sound n → can_scale k t m ≡ true

@@ -3,4 +3,3 @@ pub mod Complements
 pub mod Pivots
 pub mod Pairing
 pub mod Removals
-pub mod Order

@@ -1,19 +1,9 @@
 -- At which slots a pivot fits, told by the even interior slots beside the first. Assumes nothing.
-use Rattle.std.proofs.Common.{◌≡◌, ℕ, ◌<◌, ◌≤◌, Bool, true, false, not, ◌&&◌, ltb, is_some, Some, None, Option, sym, refl, ap, ◌∙◌, ap₂, arith, lt-ltb, MatchOption}
-use borrow.Author.Tests.{clash}
+use Rattle.std.proofs.Common.{◌≡◌, ℕ, ◌<◌, ◌≤◌, Bool, true, false, not, ◌&&◌, ltb, Some, None, sym, refl, ap, ◌∙◌, ap₂, arith, lt-ltb}
 use Rattle.models.specs.Models.{Model, slots}
 use Rattle.reductions.specs.Rules.{interior, odd, pivot_fits}
 use Rattle.reductions.specs.Runs.{first_from, first_pivot}
 use Rattle.reductions.proofs.Runs.{first_is, first_absent, first_pair_is, first_pair_absent}
-
--- what an answer that may be missing tells
-pub told_none : {X : Type 0} (o : Option X) (P : Type 0) (Q : X → Type 0) → MatchOption o P Q → is_some o ≡ false → P
-told_none None P Q h e = h
-told_none (Some x) P Q h e = absurd (clash (sym e))
-
-pub told_some : {X : Type 0} (o : Option X) (P R : Type 0) (Q : X → Type 0) → ((x : X) → Q x → R) → MatchOption o P Q → is_some o ≡ true → R
-told_some None P R Q f h e = absurd (clash e)
-told_some (Some x) P R Q f h e = f x h
 
 never : (a b c : Bool) → a && (b && (false && c)) ≡ false
 never true true c = refl
@@ -39,9 +29,6 @@ module _ (m : Model) (even : ℕ → Bool) (is-even : (s : ℕ) → even s ≡ i
 
     pub fit : (v : ℕ) → u < v → row v ≡ true → pivot_fits m u v ≡ true
     fit v order here = fits_beside v ∙ ap₂ ◌&&◌ (lt-ltb u v order) here
-
-    pub none_beside : ((v : ℕ) → row v ≡ false) → first_from slots 0 (pivot_fits m u) ≡ None
-    none_beside off = first_absent slots 0 (pivot_fits m u) (λ v a b. unfit v (off v))
 
 -- the first pair, and that there is none
 pub pair_is : (m : Model) (u v : ℕ) → u < slots → v < slots → pivot_fits m u v ≡ true → ((k : ℕ) → k < v → pivot_fits m u k ≡ false) → ((k : ℕ) → k < u → first_from slots 0 (pivot_fits m k) ≡ None) → Some (record { first = u; second = v }) ≡ first_pivot m

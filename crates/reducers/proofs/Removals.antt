@@ -1,5 +1,5 @@
 -- The calls that remove a spider make what the rule says. Assumes nothing.
-use Rattle.std.proofs.Common.{◌≡◌, ℕ, ◌<◌, Bool, true, false, cond, not, ◌&&◌, ◌||◌, eqb, pos, Decides, sym, refl, ap, ◌∙◌, eq-eqb, ne_eqb, eqb-true}
+use Rattle.std.proofs.Common.{◌≡◌, ℕ, ◌<◌, Bool, true, false, cond, not, ◌&&◌, ◌||◌, eqb, pos, ◌↔◌, IsTrue, sym, refl, ap, ◌∙◌, eq-eqb, ne_eqb, eqb-true}
 use borrow.Author.Tests.{clash}
 use Rattle.graphs.specs.Counts.{bit, total}
 use Rattle.graphs.proofs.Counting.{total-nothing}
@@ -23,7 +23,7 @@ total-none_of n f inside none k = go (f k) refl
     go false e = refl
 
 -- whether a set is empty says whether its size is 0
-pub empty_is_zero : (n : ℕ) (f g : ℕ → Bool) (r : Bool) → ((k : ℕ) → f k ≡ true → k < n) → ((k : ℕ) → g k ≡ f k) → Decides r ((k : ℕ) → g k ≡ false) → r ≡ eqb (total n (λ s. bit (f s))) 0
+pub empty_is_zero : (n : ℕ) (f g : ℕ → Bool) (r : Bool) → ((k : ℕ) → f k ≡ true → k < n) → ((k : ℕ) → g k ≡ f k) → (IsTrue r ↔ ((k : ℕ) → g k ≡ false)) → r ≡ eqb (total n (λ s. bit (f s))) 0
 empty_is_zero n f g true inside same tells = sym (eq-eqb (total n (λ s. bit (f s))) 0 (total-nothing n (λ s. bit (f s)) (λ s l. ap bit (sym (same s) ∙ tells.0 refl s))))
 empty_is_zero n f g false inside same tells = sym (ne_eqb (total n (λ s. bit (f s))) 0 (λ e. clash (tells.1 (λ k. same k ∙ total-none_of n f inside e k))))
 

@@ -7,8 +7,8 @@ ghost use Rattle.reductions.specs.Runs.{first_complement};
 ghost use Rattle.reductions.proofs.Complementing.{complement_kept};
 ghost use Rattle.reductions.proofs.Fits.{complement_at};
 ghost use Rattle.models.specs.Models.{slots};
-ghost use Rattle.reductions.proofs.Runs.{first_found, true_or_false, first_none};
-ghost use Rattle.std.proofs.Common.{⊎_elim, arith};
+ghost use Rattle.reductions.proofs.Runs.{first_found};
+ghost use Rattle.reducers.specs.Finding.{none_fits};
 
 use crate::spots::{first_number, interior_odd};
 use angles::{Phase, Turn};
@@ -23,7 +23,7 @@ pub struct Complement;
 
 // The turn that a complementation leaves: an eighth at phase 1, and seven at phase 3.
 fn odd_turn(phase: Phase) -> Turn
-    ensures { result.eighths ≡ odd_turn phase.quarters }
+    ensures { result.parts ≡ odd_turn phase.parts }
 {
     if phase.quarters() == 1 {
         Turn::of(1)
@@ -58,20 +58,14 @@ impl Rule for Complement {
 
     ghost found = { λ r m u good e. (first_found slots 0 (complement_fits m) u e).passes };
 
-    ghost none = { λ r m good e u.
-        ⊎_elim
-        (λ h. first_none slots 0 (complement_fits m) e u (omega arith) (good.inside u (complement_at m u good h).here.stood))
-        (λ h. h)
-        (true_or_false (complement_fits m u)) };
+    ghost none = { λ r m good e u. none_fits m good (complement_fits m) u (λ h. ((complement_at m u good h).here.stood, e)) };
 
     fn find(&self, diagram: &Diagram) -> Option<usize> {
         first_number(&interior_odd(diagram))
     }
 
     fn apply(&self, diagram: &mut Diagram, spot: usize) -> Result<(), AskRefusal> {
-        let Some(slot) = interior_odd(diagram).slot(spot) else {
-            return Err(AskRefusal::NoFit);
-        };
+        let slot = interior_odd(diagram).slot(spot).ok_or(AskRefusal::NoFit)?;
         complement_at(diagram, slot);
         Ok(())
     }

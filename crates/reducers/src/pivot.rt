@@ -7,8 +7,9 @@ ghost use Rattle.reductions.specs.Runs.{first_pivot, first_from};
 ghost use Rattle.reductions.proofs.Pivoting.{pivot_kept};
 ghost use Rattle.reductions.proofs.Fits.{pivot_at};
 ghost use Rattle.models.specs.Models.{slots};
-ghost use Rattle.reductions.proofs.Runs.{first_found, first_pair_found, true_or_false, first_none, first_pair_none};
-ghost use Rattle.std.proofs.Common.{⊎_elim, arith};
+ghost use Rattle.reductions.proofs.Runs.{first_found, first_pair_found, first_pair_none};
+ghost use Rattle.reducers.specs.Finding.{none_fits};
+ghost use Rattle.std.proofs.Common.{arith};
 
 use crate::spots::interior_even;
 use angles::{Phase, Turn};
@@ -16,7 +17,7 @@ use graphlike::Diagram;
 use reductions::Pair;
 use refusals::AskRefusal;
 use rows::row::Row;
-use rows::slot::{SLOTS, Slot};
+use rows::slot::Slot;
 use rules::rule::Rule;
 
 #[derive(Clone, Copy)]
@@ -33,7 +34,7 @@ fn partners(diagram: &Diagram, set: &Row, slot: Slot) -> Row
 
 // The turn that a pivot leaves: a half turn where both phases are 2, and else none.
 fn half_turns(a: Phase, b: Phase) -> Turn
-    ensures { result.eighths ≡ a.quarters * b.quarters % 8 }
+    ensures { result.parts ≡ a.parts * b.parts % 8 }
 {
     Turn::of(a.quarters() * b.quarters())
 }
@@ -73,30 +74,22 @@ impl Rule for Pivot {
     ghost found = { λ r m p good e. (first_found slots 0 (pivot_fits m p.first) p.second (first_pair_found slots 0 (λ u. first_from slots 0 (pivot_fits m u)) p e).gives).passes };
 
     ghost none = { λ r m good e p.
-        ⊎_elim
+        none_fits m good (pivot_fits m p.first) p.second
         (λ h.
         let at = pivot_at m p.first p.second good h in
-        let none = first_pair_none slots 0 (λ u. first_from slots 0 (pivot_fits m u)) e p.first (omega arith) (good.inside p.first at.first.here.stood) in
-        first_none slots 0 (pivot_fits m p.first) none p.second (omega arith) (good.inside p.second at.second.here.stood))
-        (λ h. h)
-        (true_or_false (pivot_fits m p.first p.second)) };
+        (at.second.here.stood, first_pair_none slots 0 (λ u. first_from slots 0 (pivot_fits m u)) e p.first (omega arith) (good.inside p.first at.first.here.stood))) };
 
     fn find(&self, diagram: &Diagram) -> Option<Pair> {
         let even = interior_even(diagram);
+        // (two searches left by a label: a rule of the project)
         'found: {
-            for u in 0..SLOTS {
-                let Some(slot) = even.slot(u) else {
-                    continue;
-                };
-                let partners = partners(diagram, &even, slot);
-                if partners.is_empty() {
-                    continue;
-                }
-                for v in u + 1..SLOTS {
-                    if partners.slot(v).is_some() {
+            for u in even.iter() {
+                let partners = partners(diagram, &even, u);
+                for v in partners.iter() {
+                    if u.number() < v.number() {
                         break 'found Some(Pair {
-                            first: u,
-                            second: v,
+                            first: u.number(),
+                            second: v.number(),
                         });
                     }
                 }
@@ -107,12 +100,8 @@ impl Rule for Pivot {
 
     fn apply(&self, diagram: &mut Diagram, spot: Pair) -> Result<(), AskRefusal> {
         let even = interior_even(diagram);
-        let Some(u) = even.slot(spot.first) else {
-            return Err(AskRefusal::NoFit);
-        };
-        let Some(v) = even.slot(spot.second) else {
-            return Err(AskRefusal::NoFit);
-        };
+        let u = even.slot(spot.first).ok_or(AskRefusal::NoFit)?;
+        let v = even.slot(spot.second).ok_or(AskRefusal::NoFit)?;
         if spot.first >= spot.second || !diagram.neighbours(u).holds(v) {
             return Err(AskRefusal::NoFit);
         }

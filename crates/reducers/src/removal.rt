@@ -6,14 +6,14 @@ ghost use Rattle.reductions.specs.Runs.{first_drop};
 ghost use Rattle.reductions.proofs.Removing.{removal_kept};
 ghost use Rattle.reductions.proofs.Fits.{drop_at};
 ghost use Rattle.models.specs.Models.{slots};
-ghost use Rattle.reductions.proofs.Runs.{first_found, true_or_false, first_none};
-ghost use Rattle.std.proofs.Common.{⊎_elim, arith};
+ghost use Rattle.reductions.proofs.Runs.{first_found};
+ghost use Rattle.reducers.specs.Finding.{none_fits};
 
 use crate::spots::interior_even;
 use angles::Turn;
 use graphlike::Diagram;
 use refusals::AskRefusal;
-use rows::slot::{SLOTS, Slot};
+use rows::slot::Slot;
 use rules::rule::Rule;
 
 #[derive(Clone, Copy)]
@@ -53,28 +53,17 @@ impl Rule for Removal {
 
     ghost found = { λ r m u good e. (first_found slots 0 (drop_fits m) u e).passes };
 
-    ghost none = { λ r m good e u.
-        ⊎_elim
-        (λ h. first_none slots 0 (drop_fits m) e u (omega arith) (good.inside u (drop_at m u good h).even.here.stood))
-        (λ h. h)
-        (true_or_false (drop_fits m u)) };
+    ghost none = { λ r m good e u. none_fits m good (drop_fits m) u (λ h. ((drop_at m u good h).even.here.stood, e)) };
 
     fn find(&self, diagram: &Diagram) -> Option<usize> {
         let even = interior_even(diagram);
-        for u in 0..SLOTS {
-            if let Some(slot) = even.slot(u) {
-                if is_isolated(diagram, slot) {
-                    return Some(u);
-                }
-            }
-        }
-        None
+        even.iter()
+            .find(|slot| is_isolated(diagram, *slot))
+            .map(|slot| slot.number())
     }
 
     fn apply(&self, diagram: &mut Diagram, spot: usize) -> Result<(), AskRefusal> {
-        let Some(slot) = interior_even(diagram).slot(spot) else {
-            return Err(AskRefusal::NoFit);
-        };
+        let slot = interior_even(diagram).slot(spot).ok_or(AskRefusal::NoFit)?;
         if !is_isolated(diagram, slot) {
             return Err(AskRefusal::NoFit);
         }

@@ -12,10 +12,7 @@ use rows::row::Row;
 pub(crate) fn first_number(row: &Row) -> Option<usize>
     ensures { result ≡ first_from 320 0 (has row.now) }
 {
-    match row.first() {
-        Some(slot) => Some(slot.number()),
-        None => None,
-    }
+    row.first().map(|slot| slot.number())
 }
 
 // The slots of spiders without an open leg.
@@ -27,7 +24,8 @@ pub(crate) fn interior(diagram: &Diagram) -> Row
     row
 }
 
-// Those of odd phase.
+// Those of odd phase. (These and those of even phase differ in the method that they call, and a parameter for it would
+// be longer than the line that it saves.)
 pub(crate) fn interior_odd(diagram: &Diagram) -> Row
     ensures { (s : ℕ) → has result s ≡ interior (model diagram.now) s && odd (model diagram.now) s }
 {

@@ -1,5 +1,5 @@
 -- The three rules on a working diagram: at which spots each fits, and what it makes there. Assumes nothing.
-use Rattle.std.specs.Prelude.{ℕ, ◌+◌, ◌-◌, ◌*◌, ◌%◌, Bool, false, cond, not, ◌&&◌, ◌||◌, pos, ◌==◌, nat_lt}
+use Rattle.std.specs.Prelude.{ℕ, ◌+◌, ◌-◌, ◌*◌, ◌%◌, Bool, false, if◌then◌else◌, not, ◌&&◌, ◌||◌, pos, ◌==◌, nat_lt}
 use Rattle.graphs.specs.Counts.{bit, total}
 use Rattle.graphs.specs.Graphs.{without, odd_turn}
 use Rattle.graphs.specs.Rules.{xor}
@@ -23,8 +23,8 @@ unfoldable pub complemented : ℕ → Model → Model
 complemented u m = record {
   graph = record {
     stands = without m.graph.stands u;
-    phase = λ s. cond (s == u) 0 ((m.graph.phase s + bit (m.graph.edge u s) * (4 - m.graph.phase u)) % 4);
-    edge = λ s t. cond (s == u || (t == u || s == t)) false (xor (m.graph.edge s t) (m.graph.edge u s && m.graph.edge u t));
+    phase = λ s. if s == u then 0 else (m.graph.phase s + bit (m.graph.edge u s) * (4 - m.graph.phase u)) % 4;
+    edge = λ s t. if s == u || (t == u || s == t) then false else xor (m.graph.edge s t) (m.graph.edge u s && m.graph.edge u t);
   };
   leg = m.leg;
   scalar = product (pos 1) (odd_turn (m.graph.phase u)) m.scalar;
@@ -44,8 +44,8 @@ unfoldable pub pivoted : ℕ → ℕ → Model → Model
 pivoted u v m = record {
   graph = record {
     stands = without (without m.graph.stands u) v;
-    phase = λ s. cond (s == u || s == v) 0 ((m.graph.phase s + pivot_gain u v m s) % 4);
-    edge = λ s t. cond ((s == u || s == v) || ((t == u || t == v) || s == t)) false (xor (m.graph.edge s t) (xor (m.graph.edge u s && m.graph.edge v t) (m.graph.edge v s && m.graph.edge u t)));
+    phase = λ s. if s == u || s == v then 0 else (m.graph.phase s + pivot_gain u v m s) % 4;
+    edge = λ s t. if (s == u || s == v) || ((t == u || t == v) || s == t) then false else xor (m.graph.edge s t) (xor (m.graph.edge u s && m.graph.edge v t) (m.graph.edge v s && m.graph.edge u t));
   };
   leg = m.leg;
   scalar = product (pos 2) (m.graph.phase u * m.graph.phase v) m.scalar;
@@ -61,11 +61,11 @@ drop_fits m u = (interior m u && not (odd m u)) && degree m u == 0
 
 -- √2² at phase 0, and zero at phase 2
 abbrev pub dropped_scalar : ℕ → Scalar → Scalar
-dropped_scalar p a = cond (p == 0) (product (pos 2) 0 a) nothing
+dropped_scalar p a = if p == 0 then product (pos 2) 0 a else nothing
 
 unfoldable pub dropped : ℕ → Model → Model
 dropped u m = record {
-  graph = record { stands = without m.graph.stands u; phase = λ s. cond (s == u) 0 (m.graph.phase s); edge = m.graph.edge };
+  graph = record { stands = without m.graph.stands u; phase = λ s. if s == u then 0 else m.graph.phase s; edge = m.graph.edge };
   leg = m.leg;
   scalar = dropped_scalar (m.graph.phase u) m.scalar;
 }

@@ -1,6 +1,7 @@
 // Why a call refuses: an enum for each layer, and for every case a number, a place and a layer.
 #![tactic(auto)]
 
+pub mod line;
 pub mod reason;
 
 // The part of the archive that refused.

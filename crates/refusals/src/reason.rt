@@ -1,12 +1,10 @@
 // What every refusal can tell: its number, its place and its layer.
-ghost use Rattle.std.specs.Prelude.{◌≡◌, ℕ, Some};
+ghost use Rattle.std.specs.Prelude.{◌≡◌, ℕ};
 ghost use Rattle.refusals.specs.declared.Layer.{Layer};
 ghost use Rattle.refusals.specs.Refusals.{fault_number, fault_place, fault_layer, load_number, load_place, load_layer};
 ghost use Rattle.refusals.specs.Refusals.{ask_number, ask_place, ask_layer, write_number, write_place, write_layer};
-ghost use Rattle.refusals.specs.Refusals.{layer_word};
 
 use super::{AskRefusal, Fault, Layer, LoadRefusal, WriteRefusal};
-use std::fmt;
 
 // The most bytes that a circuit text may have.
 pub const TEXT_LIMIT: usize = 65_536;
@@ -53,16 +51,16 @@ impl Reason for Fault {
 
     fn place(&self) -> usize {
         match *self {
-            Fault::ByteMissing(place) => place,
-            Fault::ForbiddenBit(place) => place,
-            Fault::AbsentValue(place) => place,
-            Fault::OutOfRange(place) => place,
-            Fault::BytesFollow(place) => place,
-            Fault::NotALetter(place) => place,
-            Fault::NotANumber(place) => place,
-            Fault::NoSuchQubit(place) => place,
-            Fault::EqualQubits(place) => place,
-            Fault::NoLineEnd(place) => place,
+            Fault::ByteMissing(place)
+            | Fault::ForbiddenBit(place)
+            | Fault::AbsentValue(place)
+            | Fault::OutOfRange(place)
+            | Fault::BytesFollow(place)
+            | Fault::NotALetter(place)
+            | Fault::NotANumber(place)
+            | Fault::NoSuchQubit(place)
+            | Fault::EqualQubits(place)
+            | Fault::NoLineEnd(place) => place,
             Fault::TextTooLong => TEXT_LIMIT,
         }
     }
@@ -92,20 +90,21 @@ impl Reason for LoadRefusal {
     fn place(&self) -> usize {
         match *self {
             LoadRefusal::Unreadable(fault, _) => fault.place(),
-            LoadRefusal::UnknownSpider(item) => item as usize,
-            LoadRefusal::TooManySpiders(item) => item as usize,
-            LoadRefusal::TooManyLegs(item) => item as usize,
-            LoadRefusal::ScalarOutOfRange(item) => item as usize,
+            // the library has no `From<u32>` for `usize`
+            LoadRefusal::UnknownSpider(item)
+            | LoadRefusal::TooManySpiders(item)
+            | LoadRefusal::TooManyLegs(item)
+            | LoadRefusal::ScalarOutOfRange(item) => item as usize,
         }
     }
 
     fn layer(&self) -> Layer {
         match *self {
             LoadRefusal::Unreadable(fault, _) => fault.layer(),
-            LoadRefusal::UnknownSpider(_) => Layer::Loading,
-            LoadRefusal::TooManySpiders(_) => Layer::Loading,
-            LoadRefusal::TooManyLegs(_) => Layer::Loading,
-            LoadRefusal::ScalarOutOfRange(_) => Layer::Loading,
+            LoadRefusal::UnknownSpider(_)
+            | LoadRefusal::TooManySpiders(_)
+            | LoadRefusal::TooManyLegs(_)
+            | LoadRefusal::ScalarOutOfRange(_) => Layer::Loading,
         }
     }
 }
@@ -128,10 +127,8 @@ impl Reason for AskRefusal {
 
     fn place(&self) -> usize {
         match *self {
-            AskRefusal::NoFit => 0,
-            AskRefusal::RowLength => 0,
-            AskRefusal::RowByte(place) => place,
-            AskRefusal::HoldSetting(place) => place,
+            AskRefusal::NoFit | AskRefusal::RowLength => 0,
+            AskRefusal::RowByte(place) | AskRefusal::HoldSetting(place) => place,
         }
     }
 
@@ -162,18 +159,5 @@ impl Reason for WriteRefusal {
 
     fn layer(&self) -> Layer {
         Layer::Writing
-    }
-}
-
-impl fmt::Display for Layer {
-    ghost output = { λ layer. Some (layer_word layer) };
-
-    fn fmt<W: fmt::Write>(&self, f: &mut fmt::Formatter<W>) -> fmt::Result {
-        match *self {
-            Layer::Reading => f.write_str("reading"),
-            Layer::Loading => f.write_str("loading"),
-            Layer::Asking => f.write_str("asking"),
-            Layer::Writing => f.write_str("writing"),
-        }
     }
 }

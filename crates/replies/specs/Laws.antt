@@ -1,5 +1,5 @@
 -- An answer is the circuit's own amplitude. Assumes nothing.
-use Rattle.std.specs.Prelude.{◌≡◌, ℕ, ◌<◌, ◌↔◌, List}
+use Rattle.std.specs.Prelude.{◌≡◌, ℕ, ◌<◌, ◌↔◌, List, Ok, Err}
 use Rattle.amounts.specs.Eighths.{none, unit}
 use Rattle.amounts.specs.Scalars.{Same}
 use Rattle.graphs.specs.Graphs.{Bits}
@@ -11,8 +11,9 @@ use Rattle.matrices.specs.Matrices.{row_of, gates_amplitude}
 use Rattle.models.specs.Models.{nothing, scaled_by}
 use Rattle.reductions.specs.Answers.{Answer as Answered}
 use Rattle.archive.specs.Questions.{bits}
-use Rattle.replies.specs.Input.{row_bytes, line_of, circuit_of}
-use Rattle.replies.specs.Reports.{Reply, too_long, answers, unloaded, unasked}
+use Rattle.deposits.specs.Input.{line_of, circuit_of}
+use Rattle.replies.specs.Input.{row_bytes}
+use Rattle.replies.specs.Reports.{Reply}
 
 -- the amplitude of the circuit's items at the row, zero exactly where that is, and what the matrices of its gates
 -- make of the row's inputs at its outputs
@@ -22,7 +23,5 @@ pub record CircuitAnswered (bs : List ℕ) (a : Answered) : Type 0 where
   pub gates : (n : ℕ) (gs : List Gate) (x y : Bits) → Spells n gs (circuit_of bs) → bits (row_bytes (line_of bs)) ≡ row_of n x y → Same (gates_amplitude n gs x y) (scaled_by a.scalar unit)
 
 abbrev pub RightReply : List ℕ → Reply → Type 0
-RightReply bs too_long = 0 < 1
-RightReply bs (answers a) = CircuitAnswered bs a
-RightReply bs (unloaded why) = 0 < 1
-RightReply bs (unasked why) = 0 < 1
+RightReply bs (Ok a) = CircuitAnswered bs a
+RightReply bs (Err why) = 0 < 1

@@ -1,3 +1,4 @@
 pub mod Toggles
 pub mod Words
 pub mod Sizes
+pub mod Walks

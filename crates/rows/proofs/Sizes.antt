@@ -1,9 +1,10 @@
 -- How many bits of words are set. Assumes nothing.
-use Rattle.std.proofs.Common.{◌≡◌, ℕ, zero, suc, ◌+◌, ◌*◌, ◌/◌, ◌%◌, ◌^◌, ◌<◌, eqb, List, get_or, refl, ap, ◌∙◌, arith, pow-add}
+use Rattle.std.proofs.Common.{◌≡◌, ℕ, zero, suc, ◌+◌, ◌*◌, ◌/◌, ◌%◌, ◌^◌, ◌<◌, eqb, List, [], ◌∷◌, length, get_or, sum_by, refl, ap, ◌∙◌, arith, pow-add}
 use lib.Count.{ones, ones_step, ones-ones}
+use Rattle.std.proofs.lemmas.List.Sums.{sum_by-cons}
 use Rattle.graphs.specs.Counts.{bit, total}
 use Rattle.graphs.proofs.Counting.{total-same}
-use Rattle.rows.specs.Rows.{bit_of}
+use Rattle.rows.specs.Rows.{bit_of, bits_in}
 use Rattle.rows.proofs.Words.{bit-zero, bit_suc}
 
 -- a sum over slots, the first taken off, and in two parts
@@ -45,22 +46,29 @@ ones_are_bits (suc n) w h =
     one_add' : (n : ℕ) → suc n ≡ 1 + n
     one_add' n = omega arith
 
--- a word more
-pub size-more : (ws : List ℕ) (n : ℕ) → get_or ws n 0 < 2 ^ 64 → total (64 * (n + 1)) (λ i. bit (bit_of (get_or ws (i / 64) 0) (i % 64))) ≡ total (64 * n) (λ i. bit (bit_of (get_or ws (i / 64) 0) (i % 64))) + ones (get_or ws n 0)
-size-more ws n small =
-    let f : ℕ → ℕ = λ i. bit (bit_of (get_or ws (i / 64) 0) (i % 64)) in
-    let same : 64 * (n + 1) ≡ 64 * n + 64 = omega arith in
-    let parts = ap (λ k. total k f) same ∙ total_parts (64 * n) 64 f in
-    let word : total 64 (λ k. f (64 * n + k)) ≡ total 64 (λ k. bit (bit_of (get_or ws n 0) k)) = total-same 64 (λ k. f (64 * n + k)) (λ k. bit (bit_of (get_or ws n 0) k)) (λ k l. at k l) in
-    let bits = ones_are_bits 64 (get_or ws n 0) small in
+-- the bits of words, one word after the other
+pub bits_in_words : (ws : List ℕ) → sum_by bits_in ws ≡ total (64 * length ws) (λ i. bit (bit_of (get_or ws (i / 64) 0) (i % 64)))
+unfolding total
+bits_in_words [] = refl
+bits_in_words (w ∷ ws) =
+    let f : ℕ → ℕ = λ i. bit (bit_of (get_or (w ∷ ws) (i / 64) 0) (i % 64)) in
+    let g : ℕ → ℕ = λ i. bit (bit_of (get_or ws (i / 64) 0) (i % 64)) in
+    let long : 64 * length (w ∷ ws) ≡ 64 + 64 * length ws = omega arith in
+    let parts = ap (λ n. total n f) long ∙ total_parts 64 (64 * length ws) f in
+    let here : total 64 f ≡ bits_in w = total-same 64 f (λ k. bit (bit_of w k)) first in
+    let rest : total (64 * length ws) (λ k. f (64 + k)) ≡ total (64 * length ws) g = total-same (64 * length ws) (λ k. f (64 + k)) g (λ k l. next k) in
+    let more = bits_in_words ws in
+    let cons = sum_by-cons bits_in w ws in
     omega arith
   where
-    at : (k : ℕ) → k < 64 → bit (bit_of (get_or ws ((64 * n + k) / 64) 0) ((64 * n + k) % 64)) ≡ bit (bit_of (get_or ws n 0) k)
-    at k l =
-        let high : (64 * n + k) / 64 ≡ n = omega arith in
-        let low : (64 * n + k) % 64 ≡ k = omega arith in
-        λ i. bit (bit_of (get_or ws (high i) 0) (low i))
+    first : (k : ℕ) → k < 64 → bit (bit_of (get_or (w ∷ ws) (k / 64) 0) (k % 64)) ≡ bit (bit_of w k)
+    first k l =
+        let high : k / 64 ≡ 0 = omega arith in
+        let low : k % 64 ≡ k = omega arith in
+        λ i. bit (bit_of (get_or (w ∷ ws) (high i) 0) (low i))
 
-pub none_yet : (f : ℕ → ℕ) → total 0 f ≡ 0
-unfolding total
-none_yet f = refl
+    next : (k : ℕ) → bit (bit_of (get_or (w ∷ ws) ((64 + k) / 64) 0) ((64 + k) % 64)) ≡ bit (bit_of (get_or ws (k / 64) 0) (k % 64))
+    next k =
+        let high : (64 + k) / 64 ≡ suc (k / 64) = omega arith in
+        let low : (64 + k) % 64 ≡ k % 64 = omega arith in
+        λ i. bit (bit_of (get_or (w ∷ ws) (high i) 0) (low i))

@@ -1,5 +1,5 @@
 -- Bits of words: of none, of one bit alone, and of a toggled word. Assumes nothing.
-use Rattle.std.proofs.Common.{◌≡◌, ℕ, zero, suc, ◌+◌, ◌-◌, ◌*◌, ◌/◌, ◌%◌, ◌^◌, ◌<◌, ◌≤◌, Bool, true, false, cond, ◌&&◌, eqb, ltb, ◌⊎◌, List, [], ◌∷◌, length, get_or, sym, refl, ap, ◌∙◌, ap₂, inl, inr, ⊎_elim, arith, pow_pos, pow-add, ltb-false, eq-eqb, ne_eqb}
+use Rattle.std.proofs.Common.{◌≡◌, ℕ, zero, suc, ◌+◌, ◌-◌, ◌*◌, ◌/◌, ◌%◌, ◌^◌, ◌<◌, ◌≤◌, Bool, true, false, ◌&&◌, eqb, ◌⊎◌, List, [], ◌∷◌, length, get_or, sym, refl, ap, ◌∙◌, ap₂, inl, inr, ⊎_elim, arith, pow_pos, pow-add, eq-eqb, ne_eqb}
 use native.Mathlib.Nat.{mod-mod}
 use lib.Bits.{bit_and, bit_xor, xor_shr, xor_mod, and_shr, and_mod}
 use lib.Count.{under, count_trailing_zeros}
@@ -54,17 +54,15 @@ and_bit = bit_both bit_and (λ p q. p && q) same and_shr and_mod
     same false true = refl
     same false false = refl
 
--- words worked one by one, of which only the first five are
-pub all_words : (f : ℕ → ℕ → ℕ) → f 0 0 ≡ 0 → (new old other : List ℕ) → length old ≤ 5 → length other ≤ 5 → ((k : ℕ) → get_or new k 0 ≡ cond (ltb k 5) (f (get_or old k 0) (get_or other k 0)) (get_or old k 0)) → (k : ℕ) → get_or new k 0 ≡ f (get_or old k 0) (get_or other k 0)
-all_words f none new old other a b each k = each k ∙ go (ltb k 5) refl
+-- words worked one by one, of which there are five
+pub all_words : (f : ℕ → ℕ → ℕ) → f 0 0 ≡ 0 → (new old other : List ℕ) → length new ≤ 5 → length old ≤ 5 → length other ≤ 5 → ((k : ℕ) → k < 5 → get_or new k 0 ≡ f (get_or old k 0) (get_or other k 0)) → (k : ℕ) → get_or new k 0 ≡ f (get_or old k 0) (get_or other k 0)
+all_words f none new old other a b c each k = ⊎_elim (λ h. each k h.1) (λ h. past h.1) (leb_tells (suc k) 5)
   where
-    go : (t : Bool) → ltb k 5 ≡ t → cond t (f (get_or old k 0) (get_or other k 0)) (get_or old k 0) ≡ f (get_or old k 0) (get_or other k 0)
-    go true e = refl
-    go false e =
-        let past = ltb-false k 5 e in
+    past : 5 < suc k → get_or new k 0 ≡ f (get_or old k 0) (get_or other k 0)
+    past far =
         let x = get_or_past old k 0 (omega arith) in
         let y = get_or_past other k 0 (omega arith) in
-        x ∙ sym none ∙ sym (ap₂ f x y)
+        get_or_past new k 0 (omega arith) ∙ sym none ∙ sym (ap₂ f x y)
 
 -- the zeros below the lowest bit that is set
 pub bit_suc : (w j : ℕ) → bit_of w (suc j) ≡ bit_of (w / 2) j

@@ -1,19 +1,28 @@
 // A set of slots as five words of bits.
-ghost use Rattle.std.specs.Prelude.{◌≡◌, ℕ, ◌<◌, true, false, not, ◌&&◌, if◌then◌else◌, Decides, MatchOption, ◌==◌, nat_eq};
+ghost use Rattle.std.specs.Prelude.{◌≡◌, ℕ, ◌<◌, ◌≤◌, true, false, not, ◌&&◌, if◌then◌else◌, IsTrue, ◌↔◌, MatchOption, ◌==◌, nat_eq, length, slice_index};
 ghost use Rattle.graphs.specs.Counts.{bit, total};
 ghost use Rattle.graphs.specs.Rules.{xor};
-ghost use Rattle.rows.specs.Rows.{has};
+ghost use Rattle.rows.specs.Rows.{has, bits_in, IsBare, IsLowest};
 
-use crate::slot::{SLOTS, Slot};
+use crate::slot::Slot;
+use crate::slots::Slots;
 
-#[derive(Clone, Copy)]
+#[derive(Clone, Copy, PartialEq, Eq)]
 pub struct Row {
     words: [u64; 5],
 }
 
+// How many bits of a word are set.
+fn ones(word: u64) -> usize
+    ensures value { result ≡ bits_in word }
+    ensures bound { result ≤ 64 }
+{
+    word.count_ones() as usize
+}
+
 impl Row {
     pub fn empty() -> Row
-        ensures { (i : ℕ) → has result i ≡ false }
+        ensures { IsBare result }
     {
         Row { words: [0; 5] }
     }
@@ -27,31 +36,18 @@ impl Row {
         row
     }
 
-    // Whether the number is that of a slot in the set.
-    fn holds_number(&self, number: usize) -> bool
-        ensures value { result ≡ has self.now number }
-        ensures bound { result ≡ true → number < 320 }
-    {
-        let word = self.words[number / 64 % 5];
-        number < SLOTS && (word >> (number % 64) as u32) & 1 == 1
-    }
-
     // Whether the slot is in the set.
     pub fn holds(&self, slot: Slot) -> bool
         ensures { result ≡ has self.now slot.number }
     {
-        self.holds_number(slot.number())
+        (self.words[slot.number() / 64] >> (slot.number() % 64) as u32) & 1 == 1
     }
 
     // The slot of that number, if it is in the set.
     pub fn slot(&self, number: usize) -> Option<Slot>
         ensures { MatchOption result (has self.now number ≡ false) (λ s. (s.number ≡ number) × (has self.now number ≡ true)) }
     {
-        if self.holds_number(number) {
-            Slot::new(number)
-        } else {
-            None
-        }
+        Slot::new(number).filter(|slot| self.holds(*slot))
     }
 
     // Puts the slot in where it was not, and takes it out where it was.
@@ -62,84 +58,88 @@ impl Row {
         self.words[number / 64] ^= 1 << (number % 64) as u32;
     }
 
+    // Works each word with that of the other set, by its place: through a `zip` the proof does not see the words.
+    fn combine<F: Fn(u64, u64) -> u64>(&mut self, other: &Row, work: F)
+        requires { F.IsAlwaysCallable work }
+        ensures long { length self.new.words ≡ 5 }
+        ensures each { (k : ℕ) → k < 5 → F.post work (slice_index self.old.words k) (slice_index other.now.words k) (slice_index self.new.words k) }
+    {
+        for (place, word) in self.words.iter_mut().enumerate() {
+            *word = work(*word, other.words[place]);
+        }
+    }
+
     // Toggles every slot of the other set.
     pub fn toggle_all(&mut self, other: &Row)
         ensures { (i : ℕ) → has self.new i ≡ xor (has self.old i) (has other.now i) }
     {
-        for word in 0..5 {
-            self.words[word] ^= other.words[word];
-        }
+        self.combine(other, |mine, others| mine ^ others);
     }
 
     // Leaves only what is in the other set too.
     pub fn intersect(&mut self, other: &Row)
         ensures { (i : ℕ) → has self.new i ≡ has self.old i && has other.now i }
     {
-        for word in 0..5 {
-            self.words[word] &= other.words[word];
-        }
+        self.combine(other, |mine, others| mine & others);
     }
 
     // Takes out what is in the other set.
     pub fn subtract(&mut self, other: &Row)
         ensures { (i : ℕ) → has self.new i ≡ has self.old i && not (has other.now i) }
     {
-        let mut both = *self;
-        both.intersect(other);
-        self.toggle_all(&both);
+        self.combine(other, |mine, others| mine ^ (mine & others));
+    }
+
+    // Puts the slot in or takes it out, where it is not so yet.
+    pub fn put(&mut self, slot: Slot, inside: bool)
+        ensures { (i : ℕ) → has self.new i ≡ (if nat_eq i slot.number then inside else has self.old i) }
+    {
+        if self.holds(slot) != inside {
+            self.toggle(slot);
+        }
     }
 
     // Puts the slot in, if it is not.
     pub fn insert(&mut self, slot: Slot)
         ensures { (i : ℕ) → has self.new i ≡ (if nat_eq i slot.number then true else has self.old i) }
     {
-        if !self.holds(slot) {
-            self.toggle(slot);
-        }
+        self.put(slot, true);
     }
 
     // Takes the slot out, if it is in.
     pub fn remove(&mut self, slot: Slot)
         ensures { (i : ℕ) → has self.new i ≡ (if nat_eq i slot.number then false else has self.old i) }
     {
-        if self.holds(slot) {
-            self.toggle(slot);
-        }
+        self.put(slot, false);
     }
 
     // Whether no slot is in the set.
     pub fn is_empty(&self) -> bool
-        ensures { Decides result ((i : ℕ) → has self.now i ≡ false) }
+        ensures { IsTrue result ↔ IsBare self.now }
     {
-        for place in 0..5 {
-            if self.words[place] != 0 {
-                return false;
-            }
-        }
-        true
+        self.first().is_none()
     }
 
     // How many slots are in the set.
     pub fn len(&self) -> usize
         ensures { result ≡ total 320 (λ i. bit (has self.now i)) }
     {
-        let mut sum = 0;
-        for part in 0..5 {
-            sum += self.words[part].count_ones() as usize;
-        }
-        sum
+        self.words.iter().map(|word| ones(*word)).sum()
+    }
+
+    // The slots of the set, the lowest first.
+    pub fn iter(&self) -> Slots
+        ensures { result.left ≡ self.now }
+    {
+        Slots::of(*self)
     }
 
     // The lowest slot of the set.
     pub fn first(&self) -> Option<Slot>
-        ensures { MatchOption result ((i : ℕ) → has self.now i ≡ false) (λ s. (has self.now s.number ≡ true) × ((i : ℕ) → i < s.number → has self.now i ≡ false)) }
+        ensures { MatchOption result (IsBare self.now) (λ s. IsLowest self.now s.number) }
     {
-        for index in 0..5 {
-            let word = self.words[index];
-            if word != 0 {
-                return Slot::new(64 * index + word.trailing_zeros() as usize);
-            }
-        }
-        None
+        let index = self.words.iter().position(|word| *word != 0)?;
+        let word = self.words[index];
+        Slot::new(64 * index + word.trailing_zeros() as usize)
     }
 }

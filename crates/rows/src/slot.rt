@@ -6,8 +6,11 @@ pub mod methods;
 // How many slots there are.
 pub const SLOTS: usize = 320;
 
+// A number below a bound.
 #[derive(Clone, Copy, Debug, PartialEq, Eq)]
-pub struct Slot {
+pub struct Below<const N: usize> {
     number: usize,
-    ghost bound: { number < 320 },
+    ghost bound: { number < N },
 }
+
+pub type Slot = Below<SLOTS>;

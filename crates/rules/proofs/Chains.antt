@@ -1,5 +1,5 @@
 -- Runs put together out of steps. Assumes nothing.
-use Rattle.std.proofs.Common.{◌≡◌, ℕ, zero, suc, ◌+◌, ◌-◌, ◌<◌, ◌≤◌, true, false, not, is_some, Some, None, Option, ap, ◌∙◌, arith}
+use Rattle.std.proofs.Common.{◌≡◌, ℕ, zero, suc, ◌+◌, ◌-◌, ◌<◌, Bool, true, false, not, is_some, Some, None, Option, sym, ap, ◌∙◌, true≢false, arith}
 use Rattle.amounts.proofs.Scalars.{same_equivalence}
 use Rattle.models.specs.Models.{Model, amount}
 use Rattle.reductions.specs.Kept.{Kept}
@@ -18,11 +18,11 @@ chain_more next b n m0 m m' e low one =
     let count : n + (r.steps + 1) ≡ n + 1 + r.steps = omega arith in
     e ∙ ap (λ k. after-steps n (ran next k m)) left ∙ ap (after-steps n) (ran-more next (b - (n + 1)) m m' one) ∙ ap (λ k. record { model = r.model; steps = k; finished = r.finished }) count
 
-pub chain_spent : (next : Model → Option Model) (b n : ℕ) (m0 m m' : Model) → ran next b m0 ≡ after-steps n (ran next (b - n) m) → b ≤ n → next m ≡ Some m' → ran next b m0 ≡ record { model = m; steps = n; finished = false }
-chain_spent next b n m0 m m' e high one =
+pub chain_spent : (next : Model → Option Model) (b n : ℕ) (m0 m : Model) → ran next b m0 ≡ after-steps n (ran next (b - n) m) → n ≡ b → ran next b m0 ≡ record { model = m; steps = b; finished = not (is_some (next m)) }
+chain_spent next b n m0 m e same =
     let left : b - n ≡ zero = omega arith in
-    let count : n + 0 ≡ n = omega arith in
-    e ∙ ap (λ k. after-steps n (ran next k m)) left ∙ ap (after-steps n) (ran_spent next m) ∙ (λ i. record { model = m; steps = count i; finished = not (is_some (one i)) })
+    let count : n + 0 ≡ b = omega arith in
+    e ∙ ap (λ k. after-steps n (ran next k m)) left ∙ ap (after-steps n) (ran_spent next m) ∙ (λ i. record { model = m; steps = count i; finished = not (is_some (next m)) })
 
 pub chain_done : (next : Model → Option Model) (b n : ℕ) (m0 m : Model) → ran next b m0 ≡ after-steps n (ran next (b - n) m) → next m ≡ None → ran next b m0 ≡ record { model = m; steps = n; finished = true }
 chain_done next b n m0 m e none =
@@ -43,3 +43,10 @@ next_some finds does m s e = ap (λ o. elim o [ Some t ↦ Some (does m t) | Non
 
 pub next_none : {S : Type 0} (finds : Model → Option S) (does : Model → S → Model) (m : Model) → finds m ≡ None → next_by finds does m ≡ None
 next_none finds does m e = ap (λ o. elim o [ Some t ↦ Some (does m t) | None ↦ None ]) e
+
+-- no step is left where no spot is found
+pub none_left : {S : Type 0} (finds : Model → Option S) (does : Model → S → Model) (m : Model) (r : Option S) (b : Bool) → r ≡ finds m → is_some r ≡ not b → b ≡ not (is_some (next_by finds does m))
+none_left finds does m (Some s) false e f = sym (ap (λ o. not (is_some o)) (next_some finds does m s (sym e)))
+none_left finds does m (Some s) true e f = absurd (true≢false f)
+none_left finds does m None true e f = sym (ap (λ o. not (is_some o)) (next_none finds does m (sym e)))
+none_left finds does m None false e f = absurd (true≢false (sym f))

@@ -6,6 +6,7 @@ use crate::rule::Rule;
 use graphlike::Diagram;
 use refusals::AskRefusal;
 
+// The kit's Either would say Left and Right of what a pair of rules calls first and second.
 #[derive(Clone, Copy, Debug, PartialEq, Eq)]
 pub enum Choice<A, B> {
     First(A),
@@ -34,6 +35,7 @@ impl<A: Rule, B: Rule> Rule for OrElse<A, B> {
 
     ghost none = { Prim.search rules };
 
+    // Tried with `map` and `or_else`: the proof of a `map` whose function returns a type that names B did not close.
     fn find(&self, diagram: &Diagram) -> Option<Choice<A::Spot, B::Spot>> {
         if let Some(spot) = self.first.find(diagram) {
             return Some(Choice::First(spot));

@@ -9,7 +9,7 @@ use crate::rule::Rule;
 use graphlike::Diagram;
 use refusals::AskRefusal;
 
-// How many steps were made, and whether none is left.
+// How many steps were made, and whether none is left. Every run has both, so neither is a flag for the other.
 #[derive(Clone, Copy, Debug, PartialEq, Eq)]
 pub struct Ran {
     pub steps: usize,
@@ -31,19 +31,17 @@ pub fn run<R: Rule>(rule: &R, diagram: &mut Diagram, budget: usize) -> Ran
     ensures after { model diagram.new ≡ (ran (next_by (R.Rule.finds rule.now) (R.Rule.does rule.now)) budget (model diagram.old)).model }
     ensures kept { KeptByRun (model diagram.old) result.steps (model diagram.new) }
 {
-    let mut steps = 0;
-    while let Some(spot) = rule.find(diagram) {
-        if steps >= budget {
+    for steps in 0..budget {
+        let Some(spot) = rule.find(diagram) else {
             return Ran {
                 steps,
-                finished: false,
+                finished: true,
             };
-        }
+        };
         let _ = step(rule, diagram, spot);
-        steps += 1;
     }
     Ran {
-        steps,
-        finished: true,
+        steps: budget,
+        finished: rule.find(diagram).is_none(),
     }
 }

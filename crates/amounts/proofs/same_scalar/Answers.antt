@@ -1,6 +1,4 @@
-use mathlib.Core.Path.{subst}
-use Prim.Native.Nat.{◌%◌}
-use lib.Dec.{T, eqb, eqb→eq, eqb_refl}
+use Rattle.std.proofs.lemmas.Bool.{eqb-true, eq-eqb}
 use Rattle.amounts.proofs.Scalars.{scalar-same, scalar_rest_told}
 use Rattle.amounts.proofs.same_scalar.Goals as goal
 
@@ -8,14 +6,14 @@ pub returns-then-a-b : goal.returns-then-a-b
 returns-then-a-b c =
     let x = c.args in
     record {
-      equal = λ t. scalar-same x.a x.m x.b x.n c.if-a-b.true (eqb→eq (x.m % 8) (x.n % 8) t);
-      apart = λ e. subst (λ r. T (eqb (x.m % 8) r)) (scalar_rest_told x.a x.m x.b x.n e).1 (eqb_refl (x.m % 8));
+      equal = λ t. scalar-same x.a x.m x.b x.n c.if-a-b.true (eqb-true _ _ t);
+      apart = λ e. eq-eqb _ _ (scalar_rest_told x.a x.m x.b x.n e).1;
     }
 
 pub returns-else-a-b : goal.returns-else-a-b
 returns-else-a-b c =
     let x = c.args in
     record {
-      equal = λ t. absurd (c.if-a-b.false (eqb→eq x.a x.b t));
+      equal = λ t. absurd (c.if-a-b.false (eqb-true _ _ t));
       apart = λ e. absurd (c.if-a-b.false (scalar_rest_told x.a x.m x.b x.n e).0);
     }

@@ -9,23 +9,19 @@ impl Power {
     pub fn of(exponent: i32) -> Power
         ensures { result ≡ power exponent }
     {
-        if exponent > LIMIT {
-            return Power { exponent: LIMIT };
+        Power {
+            exponent: exponent.clamp(-LIMIT, LIMIT),
         }
-        if exponent < -LIMIT {
-            return Power { exponent: -LIMIT };
-        }
-        Power { exponent }
     }
 
     // The power of exactly that exponent, or none where it lies beyond the limit.
     pub fn new(exponent: i32) -> Option<Power>
         ensures { result ≡ exact_power exponent }
     {
-        if exponent > LIMIT || exponent < -LIMIT {
-            None
-        } else {
+        if (-LIMIT..=LIMIT).contains(&exponent) {
             Some(Power::of(exponent))
+        } else {
+            None
         }
     }
 

@@ -1,7 +1,6 @@
 // What can be done with the open legs of a diagram.
-ghost use Rattle.std.specs.Prelude.{◌≡◌, ℕ, ◌+◌, ◌≤◌, true, false, if◌then◌else◌, Some, None, nat_eq};
-ghost use Rattle.graphs.specs.Counts.{bit};
-ghost use Rattle.models.specs.Models.{carried, on_slot, leg_limit};
+ghost use Rattle.std.specs.Prelude.{◌≡◌, ℕ, ◌≤◌, if◌then◌else◌, Some, None, nat_eq};
+ghost use Rattle.models.specs.Models.{carried, leg_limit};
 ghost use Rattle.models.specs.Edits.{led};
 ghost use Rattle.rows.specs.Rows.{has};
 ghost use Rattle.parts.specs.Tables.{maybe_leg, leg_in, opened};
@@ -15,59 +14,31 @@ use rows::slot::Slot;
 fn led(leg: Option<OpenLeg>, to: Slot, from: Slot) -> Option<OpenLeg>
     ensures { maybe_leg result ≡ led to.number from.number (maybe_leg leg) }
 {
-    let found = leg?;
-    if found.slot == from {
-        Some(OpenLeg {
-            side: found.side,
-            slot: to,
-            kind: found.kind,
-        })
-    } else {
-        leg
-    }
+    let leg = leg?;
+    let slot = if leg.slot == from { to } else { leg.slot };
+    Some(OpenLeg { slot, ..leg })
 }
 
 // The legs on one slot are led to another.
-fn lead_all(table: &mut [Option<OpenLeg>; 64], to: Slot, from: Slot)
+fn lead_all(table: &mut [Option<OpenLeg>; LEGS], to: Slot, from: Slot)
     ensures { (k : ℕ) → leg_in table.new k ≡ led to.number from.number (leg_in table.old k) }
 {
-    for number in 0..64 {
-        let leg = table[number];
-        table[number] = led(leg, to, from);
-    }
-}
-
-// Puts in the slot of a leg that is open.
-fn insert_slot(row: &mut Row, leg: Option<OpenLeg>)
-    ensures { (s : ℕ) → has row.new s ≡ (if on_slot s (maybe_leg leg) then true else has row.old s) }
-{
-    if let Some(found) = leg {
-        row.insert(found.slot);
+    for leg in table.iter_mut() {
+        *leg = led(*leg, to, from);
     }
 }
 
 // The table with one leg another.
 fn replaced(
-    table: [Option<OpenLeg>; 64],
+    table: [Option<OpenLeg>; LEGS],
     leg: LegNumber,
     now_open: Option<OpenLeg>,
-) -> [Option<OpenLeg>; 64]
+) -> [Option<OpenLeg>; LEGS]
     ensures { (k : ℕ) → leg_in result k ≡ (if nat_eq k leg.number then maybe_leg now_open else leg_in table k) }
 {
     let mut table = table;
     table[leg.number()] = now_open;
     table
-}
-
-// How many are open once one that was open or not is so or not.
-fn recount(count: usize, before: bool, after: bool) -> usize
-    ensures { bit before ≤ count → count ≤ 64 → result + bit before ≡ count + bit after }
-{
-    match (before, after) {
-        (true, false) => count.saturating_sub(1),
-        (false, true) => count.saturating_add(1),
-        _ => count,
-    }
 }
 
 impl Legs {
@@ -76,7 +47,7 @@ impl Legs {
         ensures { (k : ℕ) → leg_in result.table k ≡ None }
     {
         Legs {
-            table: [None; 64],
+            table: [None; LEGS],
             count: 0,
         }
     }
@@ -101,7 +72,8 @@ impl Legs {
         ensures { (k : ℕ) → leg_in self.new.table k ≡ (if nat_eq k leg.number then maybe_leg now_open else leg_in self.old.table k) }
     {
         let before = self.get(leg).is_some();
-        let count = recount(self.count, before, now_open.is_some());
+        let after = now_open.is_some();
+        let count = self.count + usize::from(after) - usize::from(before);
         let table = replaced(self.table, leg, now_open);
         *self = Legs { table, count };
     }
@@ -121,9 +93,10 @@ impl Legs {
         if self.count == 0 {
             return row;
         }
-        for number in 0..LEGS {
-            let leg = self.table[number];
-            insert_slot(&mut row, leg);
+        for leg in self.table.iter() {
+            if let Some(open) = leg {
+                row.insert(open.slot);
+            }
         }
         row
     }

@@ -1,20 +1,29 @@
-// How a slot is made and read.
+// How a number below a bound is made and read.
 ghost use Rattle.std.specs.Prelude.{◌≡◌, ◌%◌, ◌<◌, ◌≤◌, MatchOption};
 
-use super::{SLOTS, Slot};
+use super::{Below, SLOTS, Slot};
 
-impl Slot {
-    // The slot of that number, or none where there is no such slot.
-    pub fn new(number: usize) -> Option<Slot>
-        ensures { MatchOption result (320 ≤ number) (λ s. (s.number ≡ number) × (number < 320)) }
+impl<const N: usize> Below<N> {
+    // The number, or none where it is not below the bound.
+    pub fn new(number: usize) -> Option<Self>
+        ensures { MatchOption result (N ≤ number) (λ s. (s.number ≡ number) × (number < N)) }
     {
-        if number < SLOTS {
-            Some(Slot { number })
+        if number < N {
+            Some(Below { number })
         } else {
             None
         }
     }
 
+    pub fn number(self) -> usize
+        ensures value { result ≡ self.entry.number }
+        ensures bound { result < N }
+    {
+        self.number
+    }
+}
+
+impl Slot {
     // The slot of that number, counted round and round.
     pub fn of(number: usize) -> Slot
         ensures { result.number ≡ number % 320 }
@@ -22,12 +31,5 @@ impl Slot {
         Slot {
             number: number % SLOTS,
         }
-    }
-
-    pub fn number(self) -> usize
-        ensures value { result ≡ self.number }
-        ensures bound { result < 320 }
-    {
-        self.number
     }
 }

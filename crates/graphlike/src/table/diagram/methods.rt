@@ -12,7 +12,7 @@ use super::Diagram;
 use crate::table::{Table, half_turn};
 use angles::{Phase, Turn};
 use diagrams::items::Kind;
-use parts::leg::{LegNumber, OpenLeg};
+use parts::leg::{LegNumber, OpenLeg, holder};
 use parts::scalar::Scalar;
 use rows::row::Row;
 use rows::slot::Slot;
@@ -56,7 +56,7 @@ impl Diagram {
     }
 
     pub fn phase(&self, slot: Slot) -> Phase
-        ensures { result.quarters ≡ (model self.now).graph.phase slot.number }
+        ensures { result.parts ≡ (model self.now).graph.phase slot.number }
     {
         self.table.phases.at(slot)
     }
@@ -79,15 +79,16 @@ impl Diagram {
     pub fn scalar(&self) -> Scalar
         ensures { scale_of result ≡ (model self.now).scalar }
     {
-        let Table { scalar, .. } = self.table;
-        scalar
+        self.table.scalar
     }
 
-    // Puts a spider into an empty slot that is not kept for an open leg. Whether it was done: otherwise
-    // nothing changed. So it is with every change below that answers.
+    // Puts a spider into an empty slot that is not kept for an open leg. Whether it was done, as a set's own `insert`
+    // answers, there being no more to tell: otherwise nothing changed. So it is with every change below that answers.
+    // (One call that took the test and the change as closures would owe the invariants of a diagram for every change
+    // that there is.)
     pub fn place(&mut self, slot: Slot, phase: Phase) -> bool
         ensures done { result ≡ can_place slot.number (model self.old) }
-        ensures after { model self.new ≡ (if result then placed slot.number phase.quarters (model self.old) else model self.old) }
+        ensures after { model self.new ≡ (if result then placed slot.number phase.parts (model self.old) else model self.old) }
     {
         let done = self.table.can_place(slot);
         if done {
@@ -110,7 +111,7 @@ impl Diagram {
 
     // Turns every spider of a set of slots.
     pub fn turn(&mut self, set: &Row, phase: Phase)
-        ensures { model self.new ≡ gained (has set.now) phase.quarters (model self.old) }
+        ensures { model self.new ≡ gained (has set.now) phase.parts (model self.old) }
     {
         self.table.turn(set, phase);
     }
@@ -174,16 +175,14 @@ impl Diagram {
 
     // Multiplies by √2^k·w^m, where the power stays in reach. Zero stays zero.
     pub fn scale(&mut self, k: i32, m: Turn) -> bool
-        ensures done { result ≡ can_scale k m.eighths (model self.old) }
-        ensures after { model self.new ≡ (if result then scaled k m.eighths (model self.old) else model self.old) }
+        ensures done { result ≡ can_scale k m.parts (model self.old) }
+        ensures after { model self.new ≡ (if result then scaled k m.parts (model self.old) else model self.old) }
     {
-        match self.table.scaled(k, m) {
-            Some(scalar) => {
-                self.table.scalar = scalar;
-                true
-            }
-            None => false,
-        }
+        let Some(scalar) = self.table.scaled(k, m) else {
+            return false;
+        };
+        self.table.scalar = scalar;
+        true
     }
 
     // Makes the whole zero.
@@ -206,7 +205,7 @@ impl Diagram {
                 true
             }
             Kind::Plain => {
-                let holder = leg.holder();
+                let holder = holder(leg);
                 let _ = self.place(holder, phase);
                 let _ = self.toggle(holder, slot);
                 self.scale(-2, Turn::of(0))

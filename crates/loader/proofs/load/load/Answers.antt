@@ -1,9 +1,6 @@
-use Rattle.std.proofs.Common.{sym, ◌∙◌}
 use Rattle.graphlike.specs.Diagrams.{model}
-use Rattle.loader.proofs.Loops.{settled}
+use Rattle.loadings.proofs.Loads.{loading_keeps}
 use Rattle.loader.proofs.load.load.Goals as goal
 
-pub returns-else-is_err : goal.returns-else-is_err
-returns-else-is_err g c =
-    let made = settled c.take_all-outcome.result (g.S.Source.rest c.args.source.now) (model c.take_all-outcome.new.diagram) (sym c.is_err.ensures.value ∙ c.if-is_err.false) c.take_all-outcome.ensures.value c.take_all-outcome.ensures.after in
-    record { value = c.take_all-outcome.ensures.value; after = made.0; left = c.take_all-outcome.ensures.left; kept = made.1 }
+pub returns-clause-kept : goal.returns-clause-kept
+returns-clause-kept g c = loading_keeps (g.S.Source.rest c.args.source.now) (model c.in_ok-diagram.field-0) (g.S.Source.rest c.take_all.new.source) c.in_ok-diagram.ensures

@@ -11,9 +11,9 @@ returns-then-quarters-eq0 c =
     let d = c.args.diagram.now in
     let m = model d in
     let u = c.args.slot.number in
-    let t = c.of.result.eighths in
+    let t = c.of.result.parts in
     let zero : m.graph.phase u ≡ 0 = sym c.phase-phase.ensures ∙ sym c.quarters.ensures ∙ c.if-quarters-eq0.true in
-    let none : t ≡ 0 = ap (λ r. r.eighths) c.of.ensures in
+    let none : t ≡ 0 = ap (λ r. r.parts) c.of.ensures in
     let gone : model c.remove.new.self ≡ removed u m = did c.remove.result _ _ _ (c.remove.ensures.done ∙ drop_removes m u (sound d) c.requires) c.remove.ensures.after in
     did c.scale.result _ _ _ (c.scale.ensures.done ∙ (λ i. can_scale (pos 2) (none i) (gone i)) ∙ drop_scales m u (sound d) c.requires zero) c.scale.ensures.after
     ∙ (λ i. scaled (pos 2) (none i) (gone i)) ∙ drop_doubles m u (sound d) c.requires zero

@@ -1,6 +1,6 @@
-use Rattle.std.proofs.Common.{◌≡◌, ℕ, ◌<◌, length, get_or}
-use Rattle.replies.specs.Input.{row_byte}
+use Rattle.std.proofs.Common.{◌≡◌, take}
+use Rattle.replies.specs.Input.{row_bytes}
 use Rattle.replies.proofs.question.row_bytes.Given as goal
 
-abbrev pub invariant-loop-place : goal.invariant-loop-place
-invariant-loop-place l = (length l.row ≡ 65) × ((k : ℕ) → k < l.place → get_or l.row k 0 ≡ row_byte (get_or l.line k 0))
+abbrev pub invariant-loop-character : goal.invariant-loop-character
+invariant-loop-character l = l.row.items ≡ row_bytes (take l.character-index l.line)

@@ -11,5 +11,5 @@ returns c = same-model _ _ (record {
   phase = c.none.ensures;
   edge = c.empty.ensures;
   leg = c.none-2.ensures;
-  scalar = ap (λ t. root (pos 0) t.eighths) c.of.ensures;
+  scalar = ap (λ t. root (pos 0) t.parts) c.of.ensures;
 })

@@ -8,7 +8,7 @@ pub returns : goal.returns
 unfolding gained
 returns c = same-model _ _ (record {
   stands = λ s. refl;
-  phase = λ s. c.turn.ensures s ∙ ap (λ b. cond b ((phase_at c.args.self.now.phases s + c.args.phase.quarters) % 4) (phase_at c.args.self.now.phases s)) (c.intersect.ensures s);
+  phase = λ s. c.turn.ensures s ∙ ap (λ b. cond b ((phase_at c.args.self.now.phases s + c.args.phase.parts) % 4) (phase_at c.args.self.now.phases s)) (c.intersect.ensures s);
   edge = λ s t. refl;
   leg = λ l. refl;
   scalar = refl;

@@ -4,5 +4,5 @@ use Rattle.rows.specs.Rows.{has}
 use Rattle.parts.specs.Tables.{leg_in}
 use Rattle.parts.proofs.legs.Legs.boundary.Given as goal
 
-abbrev pub invariant-loop-number : goal.invariant-loop-number
-invariant-loop-number l = (s : ℕ) → has l.row s ≡ carried l.number (leg_in l.self.table) s
+abbrev pub invariant-loop-leg : goal.invariant-loop-leg
+invariant-loop-leg l = (s : ℕ) → has l.row s ≡ carried l.leg-index (leg_in l.self.table) s

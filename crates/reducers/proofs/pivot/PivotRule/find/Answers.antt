@@ -1,57 +1,50 @@
-use Rattle.std.proofs.Common.{◌≡◌, ◌<◌, true, false, None, sym, ◌∙◌, arith, below_more}
+use Rattle.std.proofs.Common.{◌≡◌, ◌<◌, Some, None, sym, refl, ap, ◌∙◌, arith, rules}
 use Rattle.rows.specs.Rows.{has}
+use Rattle.rows.proofs.Walks.{kept, gone}
 use Rattle.models.specs.Models.{slots}
 use Rattle.graphlike.specs.Diagrams.{model}
 use Rattle.reductions.specs.Rules.{pivot_fits}
 use Rattle.reductions.specs.Runs.{first_from}
 use Rattle.reductions.proofs.Runs.{first_absent}
-use Rattle.reducers.proofs.Pairing.{told_none, told_some, none_begin, none_beside, unfit, fit, pair_is, no_pair}
+use Rattle.reducers.proofs.Pairing.{none_begin, fit, pair_is, no_pair}
 use Rattle.reducers.proofs.pivot.PivotRule.find.Goals as goal
 
-pub loop-u-preserved-in_default : goal.loop-u-preserved-in_default
-loop-u-preserved-in_default c =
+pub loop-u-init : goal.loop-u-init
+loop-u-init c =
     let m = model c.args.diagram.now in
-    let u = c.loop-u.u in
-    below_more (λ k. first_from slots 0 (pivot_fits m k) ≡ None) u c.loop-u.invariant (none_begin m (has c.interior_even-even.result) c.interior_even-even.ensures u c.in_default.ensures)
-
-pub loop-u-preserved-then-is_empty : goal.loop-u-preserved-then-is_empty
-loop-u-preserved-then-is_empty c =
-    let m = model c.args.diagram.now in
-    let u = c.loop-u.u in
-    let even = has c.interior_even-even.result in
-    let row = has c.partners-partners.result in
-    let at = c.in-Some.ensures in
-    below_more (λ k. first_from slots 0 (pivot_fits m k) ≡ None) u c.loop-u.invariant (none_beside m even c.interior_even-even.ensures u row c.in-Some.slot.number at.0 at.1 c.partners-partners.ensures (c.is_empty.ensures.0 c.if-is_empty.true))
-
-pub loop-v-preserved : goal.loop-v-preserved
-loop-v-preserved c =
-    let m = model c.args.diagram.now in
-    let u = c.loop-u.u in
-    let v = c.loop-v.v in
-    let even = has c.interior_even-even.result in
-    let row = has c.partners-partners.result in
-    let at = c.in-Some.ensures in
-    let off : row v ≡ false = told_none c.slot-in-loop-v.result (row v ≡ false) (λ s. (s.number ≡ v) × (row v ≡ true)) c.slot-in-loop-v.ensures (sym c.is_some.ensures ∙ c.if-is_some.false) in
-    below_more (λ k. pivot_fits m u k ≡ false) v c.loop-v.invariant (unfit m even c.interior_even-even.ensures u row c.in-Some.slot.number at.0 at.1 c.partners-partners.ensures v off)
+    let even = c.interior_even-even.result in
+    let same : c.into_iter-u-iterator.result.left ≡ even = search rules in
+    record {
+      inside = λ k h. ap (λ r. has r k) (sym same) ∙ h;
+      past = λ k off. none_begin m (has even) c.interior_even-even.ensures k (ap (λ r. has r k) (sym same) ∙ off);
+    }
 
 pub loop-u-preserved : goal.loop-u-preserved
 loop-u-preserved c =
     let m = model c.args.diagram.now in
-    let u = c.loop-u.u in
-    let end = c.loop-v-test.false in
-    below_more (λ k. first_from slots 0 (pivot_fits m k) ≡ None) u c.loop-u.invariant (first_absent slots 0 (pivot_fits m u) (λ k a b. c.loop-v.invariant k (omega arith)))
+    let u = c.in-Some.u.number in
+    let left = has c.next.new.self.left in
+    let more = has c.loop-u.u-iterator.left in
+    let taken = c.in-Some.ensures.steps.1 in
+    record {
+      inside = λ k h. c.loop-u.invariant.inside k (kept left more u k taken h);
+      past = λ k off. gone left more u k (λ j. first_from slots 0 (pivot_fits m j) ≡ None) taken (first_absent slots 0 (pivot_fits m u) (λ j a b. c.loop-v.invariant.past j (c.in-None-v.ensures.steps.0 j))) (c.loop-u.invariant.past k) off;
+    }
 
-pub returns-then-is_some : goal.returns-then-is_some
-returns-then-is_some c =
+pub returns-then-number : goal.returns-then-number
+returns-then-number c =
     let m = model c.args.diagram.now in
-    let u = c.loop-u.u in
-    let v = c.loop-v.v in
+    let u = c.in-Some.u.number in
+    let v = c.in-Some-v.v.number in
     let even = has c.interior_even-even.result in
     let row = has c.partners-partners.result in
-    let at = c.in-Some.ensures in
-    let on : row v ≡ true = told_some c.slot-in-loop-v.result (row v ≡ false) (row v ≡ true) (λ s. (s.number ≡ v) × (row v ≡ true)) (λ s h. h.1) c.slot-in-loop-v.ensures (sym c.is_some.ensures ∙ c.if-is_some.true) in
-    let order : u < v = omega (arith, c.loop-v.auto.v) in
-    pair_is m u v c.loop-u-test.true c.loop-v-test.true (fit m even c.interior_even-even.ensures u row c.in-Some.slot.number at.0 at.1 c.partners-partners.ensures v order on) c.loop-v.invariant c.loop-u.invariant
+    let here = c.in-Some.ensures.steps.0 in
+    let there = c.in-Some-v.ensures.steps.0 in
+    let same : c.into_iter-v-iterator.result.left ≡ c.partners-partners.result = search rules in
+    let order : u < v = search rules in
+    let fits = fit m even c.interior_even-even.ensures u row u refl (c.loop-u.invariant.inside u here.0) c.partners-partners.ensures v order (ap (λ r. has r v) (sym same) ∙ c.loop-v.invariant.inside v there.0) in
+    (λ i. Some (record { first = c.number-then-number.ensures.value i; second = c.number-then-number-2.ensures.value i }))
+    ∙ pair_is m u v c.in-Some.u.bound c.in-Some-v.v.bound fits (λ k l. c.loop-v.invariant.past k (there.1 k l)) (λ k l. c.loop-u.invariant.past k (here.1 k l))
 
-pub returns-after-loop-u : goal.returns-after-loop-u
-returns-after-loop-u c = no_pair (model c.args.diagram.now) c.loop-u.u c.loop-u-test.false c.loop-u.invariant
+pub returns-in-None : goal.returns-in-None
+returns-in-None c = no_pair (model c.args.diagram.now) slots (omega arith) (λ k l. c.loop-u.invariant.past k (c.in-None.ensures.steps.0 k))

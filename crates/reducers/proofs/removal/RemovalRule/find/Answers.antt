@@ -1,17 +1,15 @@
-use Rattle.std.proofs.Common.{◌≡◌, true, ◌&&◌, eqb, sym, ap, ◌∙◌, ap₂, arith}
-use Rattle.models.specs.Models.{slots}
+use Rattle.std.proofs.Common.{◌≡◌, true, false, ◌&&◌, eqb, sym, ap, ◌∙◌, rules, tests}
+use Rattle.std.specs.Option.{option_map}
+use Rattle.rows.specs.Rows.{has}
+use Rattle.rows.proofs.Walks.{first_taken}
 use Rattle.graphlike.specs.Diagrams.{model}
 use Rattle.reductions.specs.Rules.{degree, drop_fits}
-use Rattle.reducers.proofs.Finding.{lowest_is, absent_is}
+use Rattle.reducers.proofs.Finding.{first_within_is}
 use Rattle.reducers.proofs.removal.RemovalRule.find.Goals as goal
 
-pub returns-then-is_isolated : goal.returns-then-is_isolated
-returns-then-is_isolated c =
-    let m = model c.args.diagram.now in
-    let u = c.loop-u.u in
-    let h = c.in-Some.ensures in
-    let alone : eqb (degree m u) 0 ≡ true = ap (λ k. eqb (degree m k) 0) (sym h.0) ∙ sym c.is_isolated.ensures ∙ c.if-is_isolated.true in
-    lowest_is slots (drop_fits m) u c.loop-u-test.true (ap₂ ◌&&◌ (sym (c.interior_even-even.ensures u) ∙ h.1) alone) c.loop-u.invariant
-
 pub returns : goal.returns
-returns c = let end = c.loop-u-test.false in absent_is slots (drop_fits (model c.args.diagram.now)) (λ k l. c.loop-u.invariant k (omega arith))
+returns c =
+    let m = model c.args.diagram.now in
+    let number : c.map.result ≡ option_map (λ s. s.number) c.find.result = search rules in
+    let found = first_taken (λ s. s.left) (λ x. x.number) c.iter.result c.find.new.self _ c.find.result (λ k. eqb (degree m k) 0 ≡ true) (λ k. eqb (degree m k) 0 ≡ false) c.find.ensures.ran (λ x q k. search (rules, tests)) (λ x q k. search (rules, tests)) in
+    number ∙ first_within_is (drop_fits m) (has c.iter.result.left) (λ k. eqb (degree m k) 0) (λ k. ap (λ e. e && eqb (degree m k) 0) (sym (ap (λ r. has r k) c.iter.ensures ∙ c.interior_even-even.ensures k))) c.find.result found

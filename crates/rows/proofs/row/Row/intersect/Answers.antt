@@ -1,4 +1,4 @@
-use Rattle.std.proofs.Common.{◌≡◌, ℕ, ◌/◌, ◌%◌, ◌≤◌, cond, ltb, length, get_or, refl, ap, ◌∙◌, subst, arith, rules}
+use Rattle.std.proofs.Common.{◌≡◌, ℕ, ◌/◌, ◌%◌, ◌<◌, ◌≤◌, length, get_or, refl, ap, ◌∙◌, arith, rules}
 use lib.Bits.{bit_and}
 use Rattle.rows.specs.Rows.{bit_of}
 use Rattle.rows.proofs.Words.{and_bit, all_words}
@@ -6,10 +6,11 @@ use Rattle.rows.proofs.row.Row.intersect.Goals as goal
 
 pub returns : goal.returns
 returns c i =
+    let new = c.combine.new.self.words in
     let old = c.args.self.now.words in
     let other = c.args.other.now.words in
+    let long = c.combine.ensures.long in
     let a : length old ≤ 5 = search rules in
     let b : length other ≤ 5 = search rules in
-    let done : c.loop-word.word ≡ 5 = omega arith in
-    let each = subst (λ w. (k : ℕ) → get_or c.loop-word.self.words k 0 ≡ cond (ltb k w) (bit_and (get_or old k 0) (get_or other k 0)) (get_or old k 0)) done c.loop-word.invariant.1 in
-    ap (λ w. bit_of w (i % 64)) (all_words bit_and refl c.loop-word.self.words old other a b each (i / 64)) ∙ and_bit (get_or old (i / 64) 0) (get_or other (i / 64) 0) (i % 64)
+    let each : (k : ℕ) → k < 5 → get_or new k 0 ≡ bit_and (get_or old k 0) (get_or other k 0) = λ k l. let q = c.combine.ensures.each k l in search rules in
+    ap (λ w. bit_of w (i % 64)) (all_words bit_and refl new old other (omega arith) a b each (i / 64)) ∙ and_bit (get_or old (i / 64) 0) (get_or other (i / 64) 0) (i % 64)

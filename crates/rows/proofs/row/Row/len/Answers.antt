@@ -1,24 +1,21 @@
-use Rattle.std.proofs.Common.{◌*◌, ◌^◌, ◌<◌, get_or, sym, arith, rules}
-use lib.Count.{ones-le}
-use Rattle.graphs.proofs.Sets.{total_most}
-use Rattle.rows.specs.Rows.{has}
-use Rattle.rows.proofs.Sizes.{size-more, none_yet}
+use Rattle.std.proofs.Common.{rules, arith, ◌≡◌, ◌^◌, ◌≤◌, length, sum_by, ap, ◌∙◌, ◌*◌}
+use Rattle.std.proofs.lemmas.Iterator.{YieldsList-from_slice}
+use Rattle.std.proofs.lemmas.Iterator.Adapters.{fits_from_length, at_most_from_yields_List}
+use Rattle.graphs.specs.Counts.{bit, total}
+use Rattle.rows.specs.Rows.{has, bits_in}
+use Rattle.rows.proofs.Sizes.{bits_in_words}
 use Rattle.rows.proofs.row.Row.len.Goals as goal
 
-pub loop-part-init : goal.loop-part-init
-loop-part-init c = sym (none_yet _)
+-- each word has at most 64 slots
+pub sum-requires-clause-fits : goal.sum-requires-clause-fits
+sum-requires-clause-fits c =
+    let few : length c.args.self.now.words ≤ 5 = search rules in
+    fits_from_length _ _ 5 (2 ^ 64) (at_most_from_yields_List (YieldsList-from_slice c.args.self.now.words cc) few) c.map.ensures.closure (omega arith) (λ x r q k. search rules)
 
-pub overflow_cast-sum : goal.overflow_cast-sum
-overflow_cast-sum c = let small : get_or c.args.self.now.words c.loop-part.part 0 < 2 ^ 64 = search rules in let few = ones-le 64 (get_or c.args.self.now.words c.loop-part.part 0) small in omega arith
-
-pub overflow_add-sum : goal.overflow_add-sum
-overflow_add-sum c =
-    let small : get_or c.args.self.now.words c.loop-part.part 0 < 2 ^ 64 = search rules in
-    let few = ones-le 64 (get_or c.args.self.now.words c.loop-part.part 0) small in
-    let most = total_most (64 * c.loop-part.part) (has c.args.self.now) in
-    let inv = c.loop-part.invariant in
-    let test = c.loop-part-test.true in
-    omega arith
-
-pub loop-part-preserved : goal.loop-part-preserved
-loop-part-preserved c = let small : get_or c.args.self.now.words c.loop-part.part 0 < 2 ^ 64 = search rules in let more = size-more c.args.self.now.words c.loop-part.part small in let inv = c.loop-part.invariant in omega arith
+pub returns : goal.returns
+returns c =
+    let ws = c.args.self.now.words in
+    let long : length ws ≡ 5 = search rules in
+    let all : c.sum.result ≡ sum_by bits_in ws = search rules in
+    let words = bits_in_words ws in
+    all ∙ words ∙ ap (λ n. total (64 * n) (λ i. bit (has c.args.self.now i))) long

@@ -13,15 +13,15 @@ unfolding scaled
 invariant_of-self c =
     let m = model c.args.self.now in
     let k = to_z-of_z w32 c.args.k c.ranges.k in
-    let can = subst (λ (z : ℤ). can_scale z c.args.m.eighths m ≡ true) k c.in-Some.ensures.0 in
-    let same = subst (λ (z : ℤ). scale_of c.in-Some.scalar ≡ product z c.args.m.eighths m.scalar) k c.in-Some.ensures.1 in
-    owed _ (scaled c.args.k c.args.m.eighths m) (same-model _ _ (record { stands = λ s. refl; phase = λ s. refl; edge = λ s t. refl; leg = λ l. refl; scalar = same })) (scaled-sound c.args.k c.args.m.eighths (sound c.args.self.now) can)
+    let can = subst (λ (z : ℤ). can_scale z c.args.m.parts m ≡ true) k c.in-Some.ensures.0 in
+    let same = subst (λ (z : ℤ). scale_of c.in-Some.scalar ≡ product z c.args.m.parts m.scalar) k c.in-Some.ensures.1 in
+    owed _ (scaled c.args.k c.args.m.parts m) (same-model _ _ (record { stands = λ s. refl; phase = λ s. refl; edge = λ s t. refl; leg = λ l. refl; scalar = same })) (scaled-sound c.args.k c.args.m.parts (sound c.args.self.now) can)
 
-pub returns-in-Some : goal.returns-in-Some
+pub returns : goal.returns
 unfolding scaled
-returns-in-Some c =
+returns c =
     let m = model c.args.self.now in
     let k = to_z-of_z w32 c.args.k c.ranges.k in
-    let can = subst (λ (z : ℤ). can_scale z c.args.m.eighths m ≡ true) k c.in-Some.ensures.0 in
-    let same = subst (λ (z : ℤ). scale_of c.in-Some.scalar ≡ product z c.args.m.eighths m.scalar) k c.in-Some.ensures.1 in
+    let can = subst (λ (z : ℤ). can_scale z c.args.m.parts m ≡ true) k c.in-Some.ensures.0 in
+    let same = subst (λ (z : ℤ). scale_of c.in-Some.scalar ≡ product z c.args.m.parts m.scalar) k c.in-Some.ensures.1 in
     record { done = sym can; after = same-model _ _ (record { stands = λ s. refl; phase = λ s. refl; edge = λ s t. refl; leg = λ l. refl; scalar = same }) }

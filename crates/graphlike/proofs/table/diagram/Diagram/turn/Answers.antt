@@ -7,4 +7,4 @@ use Rattle.graphlike.proofs.Sounds.{sound, owed}
 use Rattle.graphlike.proofs.table.diagram.Diagram.turn.Goals as goal
 
 pub invariant_of-self : goal.invariant_of-self
-invariant_of-self c = owed (shape c.turn.new.self) (gained (has c.args.set.now) c.args.phase.quarters (model c.args.self.now)) c.turn.ensures (gained-sound (has c.args.set.now) c.args.phase.quarters (sound c.args.self.now))
+invariant_of-self c = owed (shape c.turn.new.self) (gained (has c.args.set.now) c.args.phase.parts (model c.args.self.now)) c.turn.ensures (gained-sound (has c.args.set.now) c.args.phase.parts (sound c.args.self.now))

@@ -1,6 +1,0 @@
-use Rattle.std.proofs.Common.{◌≡◌, ◌+◌, drop}
-use Rattle.deposits.specs.Input.{row_length}
-use Rattle.deposits.proofs.input.row_length.Given as goal
-
-abbrev pub invariant-loop-i : goal.invariant-loop-i
-invariant-loop-i l = l.i + row_length (drop l.i l.bytes) ≡ row_length l.bytes
