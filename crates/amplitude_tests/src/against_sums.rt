@@ -1,9 +1,10 @@
 // Amplitudes before and after steps, runs and reductions, against sums.
 use crate::samples::{Random, draw};
 use crate::sums::{Sum, bit, open_legs, sum_at};
+use angles::Turn;
 use archive::answer::amplitude;
 use diagrams::items::Item;
-use diagrams::source::Listed;
+use diagrams::source::{Listed, Source};
 use graphlike::Diagram;
 use loader::load::load;
 use parts::scalar::Scalar;
@@ -16,94 +17,136 @@ use rows::slot::SLOTS;
 use rules::choice::OrElse;
 use rules::rule::Rule;
 use rules::run::{Ran, run, step};
+use std::alloc::Global;
 use std::process::Abort;
 use std::test::Fail;
 
-// The sums of a list of items with at most four open legs, at each row, the first leg's bit the lowest.
-#[derive(Clone, Copy)]
-pub struct Sums {
+// A loaded diagram with at most four open legs, and the sum of its items at each row, the first leg's bit the lowest.
+#[derive(Drop)]
+pub struct Sample {
+    pub diagram: Diagram,
     open: usize,
-    rows: usize,
-    at: [Sum; 16],
+    sums: Vec<Sum>,
 }
 
-pub fn sums_of(items: &[Item]) -> Sums {
-    let open = open_legs(items);
-    let rows = match open {
-        0 => 1,
-        1 => 2,
-        2 => 4,
-        3 => 8,
-        _ => 16,
-    };
-    let mut at = [sum_at(items, 0); 16];
-    for row in 1..16 {
-        if row < rows {
-            at[row] = sum_at(items, row as u32);
-        }
-    }
-    Sums { open, rows, at }
-}
-
-impl Sums {
-    // How many rows have a sum that is not zero.
-    fn alive(&self) -> usize {
-        let mut alive = 0usize;
-        for row in 0..16 {
-            if row < self.rows && !self.at[row].is_zero() {
-                alive = alive.wrapping_add(1);
-            }
-        }
-        alive
-    }
-}
-
+// A row of four bytes.
 fn bytes_of(row: u32) -> [u8; 4] {
-    let mut bytes = [0; 4];
-    for place in 0..4 {
-        if bit(row, place as u16) {
-            bytes[place] = 1;
-        }
-    }
-    bytes
+    [0, 1, 2, 3].map(|place| u8::from(bit(row, place)))
 }
 
 // A diagram of nothing: no spider, no open leg, and the scalar 1.
 pub fn is_blank(diagram: &Diagram) -> bool {
-    let one = match diagram.scalar() {
-        Scalar::Zero => false,
-        Scalar::Root(k, m) => k == 0 && m.eighths() == 0,
-    };
-    one && diagram.spiders().is_empty() && diagram.open_legs() == 0
+    diagram.scalar() == Scalar::Root(0, Turn::of(0))
+        && diagram.spiders().is_empty()
+        && diagram.open_legs() == 0
 }
 
-// The diagram answers every row as the sums do, in few steps, and leaves the work diagram with nothing.
-pub fn agrees(
-    rt: &impl Abort,
-    sums: &Sums,
-    diagram: &Diagram,
-    work: &mut Diagram,
-) -> Result<(), Fail> {
-    let open = sums.open;
-    assert!(rt; diagram.open_legs() == open);
-    assert!(rt; open <= 4);
-    for row in 0..16 {
-        if row < sums.rows {
-            let bytes = bytes_of(row as u32);
-            let answer = amplitude(diagram, &bytes[0..open], work)?;
-            assert!(rt; sums.at[row].is(answer.scalar));
-            assert!(rt; answer.steps <= diagram.spiders().len().wrapping_add(open));
-            assert!(rt; is_blank(work));
-        }
-    }
-    Ok(())
+// The diagram that the source loads.
+pub fn loaded_from<S: Source>(source: &mut S) -> Result<Diagram, Fail> {
+    let mut diagram = Diagram::new();
+    load(&mut diagram, source)?;
+    Ok(diagram)
 }
 
 pub fn loaded(items: &[Item]) -> Result<Diagram, Fail> {
-    let mut diagram = Diagram::new();
-    let mut source = Listed::new(items);
-    load(&mut diagram, &mut source)?;
-    Ok(diagram)
+    loaded_from(&mut Listed::new(items))
+}
+
+impl Sample {
+    pub fn of(heap: Global, items: &[Item]) -> Result<Sample, Fail> {
+        let open = open_legs(items);
+        let rows = 1u32 << open.min(4) as u32;
+        Ok(Sample {
+            diagram: loaded(items)?,
+            open,
+            sums: (0..rows).map(|row| sum_at(items, row)).collect(heap)?,
+        })
+    }
+
+    fn draw(heap: Global, random: &mut Random) -> Result<Sample, Fail> {
+        Sample::of(heap, draw(heap, random)?.as_slice())
+    }
+
+    // How many rows have a sum that is not zero.
+    fn alive(&self) -> usize {
+        self.sums.iter().filter(|sum| !sum.is_zero()).count()
+    }
+
+    // The diagram answers every row as the sums do, in few steps, and leaves the work diagram with nothing.
+    pub fn agrees(
+        &self,
+        rt: &impl Abort,
+        diagram: &Diagram,
+        work: &mut Diagram,
+    ) -> Result<(), Fail> {
+        let open = self.open;
+        assert!(rt; diagram.open_legs() == open);
+        assert!(rt; open <= 4);
+        for (row, sum) in (0..16).zip(&self.sums) {
+            let bytes = bytes_of(row);
+            let answer = amplitude(diagram, &bytes[0..open], work)?;
+            assert!(rt; sum.is(answer.scalar));
+            assert!(rt; answer.steps <= diagram.spiders().len().wrapping_add(open));
+            assert!(rt; is_blank(work));
+        }
+        Ok(())
+    }
+
+    // What a run of at most some steps may leave: the same answers, a spider fewer for each step at least.
+    fn ran_well(
+        &self,
+        rt: &impl Abort,
+        after: &Diagram,
+        ran: Ran,
+        budget: usize,
+        work: &mut Diagram,
+    ) -> Result<(), Fail> {
+        let before = self.diagram.spiders().len();
+        assert!(rt; ran.steps <= budget);
+        assert!(rt; after.spiders().len().wrapping_add(ran.steps) <= before);
+        self.agrees(rt, after, work)
+    }
+
+    // A step by the rule where it finds a spot, and runs by it; and whether it found one.
+    fn keeps<R: Rule>(&self, rt: &impl Abort, rule: &R, work: &mut Diagram) -> Result<bool, Fail> {
+        let spot = rule.find(&self.diagram);
+        let found = spot.is_some();
+        if let Some(spot) = spot {
+            let mut next = self.diagram;
+            step(rule, &mut next, spot)?;
+            assert!(rt; next.spiders().len() < self.diagram.spiders().len());
+            self.agrees(rt, &next, work)?;
+        }
+        for budget in 0..4 {
+            let mut next = self.diagram;
+            let ran = run(rule, &mut next, budget);
+            self.ran_well(rt, &next, ran, budget, work)?;
+            assert!(rt; (ran.steps > 0) == (found && budget > 0));
+            assert!(rt; ran.finished == rule.find(&next).is_none());
+        }
+        Ok(found)
+    }
+
+    // Steps and runs by each rule, and by one made of all three.
+    fn all_keep(&self, rt: &impl Abort) -> Result<Found, Fail> {
+        let mut work = Diagram::new();
+        let either = OrElse {
+            first: Removal,
+            second: OrElse {
+                first: Pivot,
+                second: Complement,
+            },
+        };
+        let found = Found {
+            complement: self.keeps(rt, &Complement, &mut work)?,
+            pivot: self.keeps(rt, &Pivot, &mut work)?,
+            removal: self.keeps(rt, &Removal, &mut work)?,
+            either: self.keeps(rt, &either, &mut work)?,
+        };
+        assert!(rt; found.either == (found.complement || found.pivot || found.removal));
+        assert!(rt; found.either != is_reduced(&self.diagram));
+        Ok(found)
+    }
 }
 
 #[test]
@@ -113,12 +156,10 @@ fn amplitudes_are_sums(rt: HostRuntime) -> Result<(), Fail> {
     let mut alive = 0usize;
     let mut rows = 0usize;
     for _ in 0..1000 {
-        let sample = draw(&mut random);
-        let sums = sums_of(sample.items());
-        let diagram = loaded(sample.items())?;
-        agrees(&rt, &sums, &diagram, &mut work)?;
-        alive = alive.wrapping_add(sums.alive());
-        rows = rows.wrapping_add(sums.rows);
+        let sample = Sample::draw(rt.alloc(), &mut random)?;
+        sample.agrees(&rt, &sample.diagram, &mut work)?;
+        alive = alive.wrapping_add(sample.alive());
+        rows = rows.wrapping_add(sample.sums.len());
     }
     // the samples are of both sorts
     assert!(rt; alive >= 1000);
@@ -131,15 +172,13 @@ fn amplitudes_are_sums(rt: HostRuntime) -> Result<(), Fail> {
 fn is_reduced(diagram: &Diagram) -> bool {
     let mut inner = diagram.spiders();
     inner.subtract(&diagram.boundary());
-    for number in 0..SLOTS {
-        if let Some(slot) = inner.slot(number) {
-            let neighbours = diagram.neighbours(slot);
-            let mut partners = neighbours;
-            partners.intersect(&inner);
-            let odd = diagram.phase(slot).quarters() % 2 == 1;
-            if odd || neighbours.is_empty() || has_even(diagram, &partners) {
-                return false;
-            }
+    for slot in inner.iter() {
+        let neighbours = diagram.neighbours(slot);
+        let mut partners = neighbours;
+        partners.intersect(&inner);
+        let odd = diagram.phase(slot).quarters() % 2 == 1;
+        if odd || neighbours.is_empty() || has_even(diagram, &partners) {
+            return false;
         }
     }
     true
@@ -147,115 +186,32 @@ fn is_reduced(diagram: &Diagram) -> bool {
 
 // Whether a slot of the set is of even phase.
 fn has_even(diagram: &Diagram, set: &Row) -> bool {
-    for number in 0..SLOTS {
-        if let Some(slot) = set.slot(number) {
-            if diagram.phase(slot).quarters() % 2 == 0 {
-                return true;
-            }
-        }
-    }
-    false
+    set.iter()
+        .any(|slot| diagram.phase(slot).quarters() % 2 == 0)
 }
 
-// What a run of at most some steps may leave: the same answers, a spider fewer for each step at least.
-fn ran_well(
-    rt: &impl Abort,
-    sums: &Sums,
-    before: &Diagram,
-    after: &Diagram,
-    ran: Ran,
-    budget: usize,
-    work: &mut Diagram,
-) -> Result<(), Fail> {
-    assert!(rt; ran.steps <= budget);
-    assert!(rt; after.spiders().len().wrapping_add(ran.steps) <= before.spiders().len());
-    agrees(rt, sums, after, work)
-}
-
-// A step by the rule where it finds a spot, and runs by it; and whether it found one.
-fn keeps<R: Rule>(
-    rt: &impl Abort,
-    rule: &R,
-    sums: &Sums,
-    diagram: &Diagram,
-    work: &mut Diagram,
-) -> Result<bool, Fail> {
-    let found = rule.find(diagram).is_some();
-    if let Some(spot) = rule.find(diagram) {
-        let mut next = *diagram;
-        step(rule, &mut next, spot)?;
-        assert!(rt; next.spiders().len() < diagram.spiders().len());
-        agrees(rt, sums, &next, work)?;
-    }
-    for budget in 0..4 {
-        let mut next = *diagram;
-        let ran = run(rule, &mut next, budget);
-        ran_well(rt, sums, diagram, &next, ran, budget, work)?;
-        assert!(rt; (ran.steps > 0) == (found && budget > 0));
-        assert!(rt; ran.finished == rule.find(&next).is_none());
-    }
-    Ok(found)
-}
-
-// In how many samples each rule found a spot.
-#[derive(Clone, Copy)]
+// Whether each rule found a spot.
+#[derive(Clone, Copy, Debug)]
 struct Found {
-    complement: usize,
-    pivot: usize,
-    removal: usize,
-    either: usize,
-}
-
-fn count(count: usize, whether: bool) -> usize {
-    if whether {
-        count.wrapping_add(1)
-    } else {
-        count
-    }
-}
-
-// Steps and runs by each rule, and by one made of all three.
-fn all_keep(rt: &impl Abort, sums: &Sums, diagram: &Diagram, found: Found) -> Result<Found, Fail> {
-    let mut work = Diagram::new();
-    let either = OrElse {
-        first: Removal,
-        second: OrElse {
-            first: Pivot,
-            second: Complement,
-        },
-    };
-    let complement = keeps(rt, &Complement, sums, diagram, &mut work)?;
-    let pivot = keeps(rt, &Pivot, sums, diagram, &mut work)?;
-    let removal = keeps(rt, &Removal, sums, diagram, &mut work)?;
-    let any = keeps(rt, &either, sums, diagram, &mut work)?;
-    assert!(rt; any == (complement || pivot || removal));
-    assert!(rt; any != is_reduced(diagram));
-    Ok(Found {
-        complement: count(found.complement, complement),
-        pivot: count(found.pivot, pivot),
-        removal: count(found.removal, removal),
-        either: count(found.either, any),
-    })
+    complement: bool,
+    pivot: bool,
+    removal: bool,
+    either: bool,
 }
 
 #[test]
 fn steps_and_runs_keep_sums(rt: HostRuntime) -> Result<(), Fail> {
     let mut random = Random::new(2);
-    let mut found = Found {
-        complement: 0,
-        pivot: 0,
-        removal: 0,
-        either: 0,
-    };
+    let mut found = Vec::new(rt.alloc());
     for _ in 0..300 {
-        let sample = draw(&mut random);
-        let sums = sums_of(sample.items());
-        let diagram = loaded(sample.items())?;
-        found = all_keep(&rt, &sums, &diagram, found)?;
+        let sample = Sample::draw(rt.alloc(), &mut random)?;
+        found.push(sample.all_keep(&rt)?)?;
     }
     // each rule found spots in some samples and none in others
-    assert!(rt; found.complement >= 10 && found.pivot >= 10 && found.removal >= 10);
-    assert!(rt; found.either <= 290);
+    assert!(rt; found.iter().filter(|found| found.complement).count() >= 10);
+    assert!(rt; found.iter().filter(|found| found.pivot).count() >= 10);
+    assert!(rt; found.iter().filter(|found| found.removal).count() >= 10);
+    assert!(rt; found.iter().filter(|found| found.either).count() <= 290);
     Ok(())
 }
 
@@ -264,14 +220,12 @@ fn reductions_keep_sums(rt: HostRuntime) -> Result<(), Fail> {
     let mut random = Random::new(3);
     let mut work = Diagram::new();
     for _ in 0..400 {
-        let sample = draw(&mut random);
-        let sums = sums_of(sample.items());
-        let diagram = loaded(sample.items())?;
-        let rest = !is_reduced(&diagram);
+        let sample = Sample::draw(rt.alloc(), &mut random)?;
+        let rest = !is_reduced(&sample.diagram);
         for budget in [0, 1, 2, 3, SLOTS] {
-            let mut next = diagram;
+            let mut next = sample.diagram;
             let ran = reduce(&mut next, budget);
-            ran_well(&rt, &sums, &diagram, &next, ran, budget, &mut work)?;
+            sample.ran_well(&rt, &next, ran, budget, &mut work)?;
             assert!(rt; (ran.steps > 0) == (rest && budget > 0));
             assert!(rt; ran.finished == is_reduced(&next));
             assert!(rt; ran.finished || ran.steps == budget);

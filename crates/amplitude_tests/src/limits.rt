@@ -1,7 +1,7 @@
 // What loading takes at most, and each of its refusals with the number of the item.
 use crate::against_sums::{is_blank, loaded};
-use crate::making::{factor, green, hadamard, leg, open, wire};
-use crate::worked::{closed, tells};
+use crate::making::{factor, green, hadamard, leg, open};
+use crate::worked::{closed, root, tells};
 use archive::answer::amplitude;
 use circuits::text::CircuitText;
 use diagrams::items::{Item, Kind, Setting};
@@ -17,20 +17,16 @@ fn refuses<S: Source>(rt: &impl Abort, source: &mut S, reason: LoadRefusal) -> R
     let mut diagram = Diagram::new();
     let mut work = Diagram::new();
     let before = [green(1), open(0), factor(5, 3)];
-    let mut first = Listed::new(&before);
-    load(&mut diagram, &mut first)?;
+    load(&mut diagram, &mut Listed::new(&before))?;
     assert!(rt; !is_blank(&diagram));
-    match load(&mut diagram, source) {
-        Ok(()) => return Err(Fail::new("loaded")),
-        Err(told) => assert!(rt; told == reason),
-    }
+    assert!(rt; load(&mut diagram, source) == Err(reason));
     assert!(rt; is_blank(&diagram));
-    tells(rt, amplitude(&diagram, &[], &mut work)?, 0, 0, 0)
+    tells(rt, amplitude(&diagram, &[], &mut work)?, root(0, 0), 0);
+    Ok(())
 }
 
 fn refused(rt: &impl Abort, items: &[Item], reason: LoadRefusal) -> Result<(), Fail> {
-    let mut source = Listed::new(items);
-    refuses(rt, &mut source, reason)
+    refuses(rt, &mut Listed::new(items), reason)
 }
 
 #[test]
@@ -39,7 +35,7 @@ fn spiders(rt: HostRuntime) -> Result<(), Fail> {
     let full = loaded(&items[0..256])?;
     assert!(rt; full.spiders().len() == 256);
     // each is √2·w, and 256 eighth turns are whole turns
-    tells(&rt, closed(&items[0..256])?, 256, 0, 256)?;
+    tells(&rt, closed(&items[0..256])?, root(256, 0), 256);
     refused(&rt, &items, LoadRefusal::TooManySpiders(256))?;
     // what else comes before counts as an item, and not as a spider
     let mut late = items;
@@ -47,7 +43,7 @@ fn spiders(rt: HostRuntime) -> Result<(), Fail> {
     assert!(rt; loaded(&late)?.spiders().len() == 256);
     // two that fuse count as two
     let mut fused = [green(1); 258];
-    fused[2] = wire(0, 1, Kind::Plain);
+    fused[2] = Item::wire(0, 1, Kind::Plain);
     assert!(rt; loaded(&fused[0..257])?.spiders().len() == 255);
     refused(&rt, &fused, LoadRefusal::TooManySpiders(257))
 }
@@ -60,8 +56,8 @@ fn legs(rt: HostRuntime) -> Result<(), Fail> {
     assert!(rt; full.open_legs() == 64);
     let mut work = Diagram::new();
     // equal bits leave one term, 1 or -1; one pivot takes the spider and a leg's, and 63 removals the others'
-    tells(&rt, amplitude(&full, &[0; 64], &mut work)?, 0, 0, 64)?;
-    tells(&rt, amplitude(&full, &[1; 64], &mut work)?, 0, 4, 64)?;
+    tells(&rt, amplitude(&full, &[0; 64], &mut work)?, root(0, 0), 64);
+    tells(&rt, amplitude(&full, &[1; 64], &mut work)?, root(0, 4), 64);
     refused(&rt, &items, LoadRefusal::TooManyLegs(65))?;
     // held legs count as well
     let mut held = [leg(0, Kind::Hadamard, Setting::HeldOne); 66];
@@ -74,15 +70,15 @@ fn legs(rt: HostRuntime) -> Result<(), Fail> {
 fn scalars(rt: HostRuntime) -> Result<(), Fail> {
     let least = [green(0), green(0), factor(-29_999, 0), hadamard(0, 1)];
     // the sum of the wire is 2, and the wire itself is a root less
-    tells(&rt, closed(&least)?, -29_998, 0, 1)?;
+    tells(&rt, closed(&least)?, root(-29_998, 0), 1);
     let mut items = [green(0), green(0), factor(-30_000, 0), hadamard(0, 1)];
     refused(&rt, &items, LoadRefusal::ScalarOutOfRange(3))?;
     items[3] = leg(1, Kind::Hadamard, Setting::Open);
     refused(&rt, &items, LoadRefusal::ScalarOutOfRange(3))?;
-    items[3] = wire(0, 1, Kind::Plain);
-    tells(&rt, closed(&items)?, -29_998, 0, 1)?;
-    tells(&rt, closed(&[factor(-30_000, 5)])?, -30_000, 5, 0)?;
-    tells(&rt, closed(&[factor(30_000, 5)])?, 30_000, 5, 0)?;
+    items[3] = Item::wire(0, 1, Kind::Plain);
+    tells(&rt, closed(&items)?, root(-29_998, 0), 1);
+    tells(&rt, closed(&[factor(-30_000, 5)])?, root(-30_000, 5), 0);
+    tells(&rt, closed(&[factor(30_000, 5)])?, root(30_000, 5), 0);
     refused(
         &rt,
         &[factor(-30_000, 0), factor(-1, 0)],
@@ -124,12 +120,17 @@ fn zeros(rt: HostRuntime) -> Result<(), Fail> {
 fn unknown_spiders(rt: HostRuntime) -> Result<(), Fail> {
     refused(
         &rt,
-        &[wire(0, 0, Kind::Plain)],
+        &[Item::wire(0, 0, Kind::Plain)],
         LoadRefusal::UnknownSpider(0),
     )?;
     refused(&rt, &[open(0), green(0)], LoadRefusal::UnknownSpider(0))?;
     for end in [1, 2, 255, 256, 257, u16::MAX] {
-        let items = [green(0), factor(1, 1), wire(0, end, Kind::Plain), green(0)];
+        let items = [
+            green(0),
+            factor(1, 1),
+            Item::wire(0, end, Kind::Plain),
+            green(0),
+        ];
         refused(&rt, &items, LoadRefusal::UnknownSpider(2))?;
         refused(
             &rt,
@@ -173,8 +174,8 @@ fn several_reasons(rt: HostRuntime) -> Result<(), Fail> {
 }
 
 fn unreadable(rt: &impl Abort, text: &[u8], fault: Fault, item: u32) -> Result<(), Fail> {
-    let mut source = CircuitText::new(text);
-    refuses(rt, &mut source, LoadRefusal::Unreadable(fault, item))
+    let reason = LoadRefusal::Unreadable(fault, item);
+    refuses(rt, &mut CircuitText::new(text), reason)
 }
 
 #[test]

@@ -1,12 +1,15 @@
 // What the program prints.
 use replies::report::respond;
-use std::alloc::{AllocError, Global};
+use std::alloc::Global;
 use std::process::Abort;
 use std::test::Fail;
 
+// The like stands in conformance, for what is accepted: a crate for these lines alone is no plainer.
 fn prints(rt: &impl Abort, heap: Global, input: &[u8], line: &str) -> Result<(), Fail> {
-    let report = respond(input);
-    let text = format!(in heap; "{report}")?;
+    let text = match respond(input) {
+        Ok(answer) => format!(in heap; "{answer}")?,
+        Err(refusal) => format!(in heap; "{refusal}")?,
+    };
     assert!(rt; text.as_str() == line);
     Ok(())
 }
@@ -47,19 +50,11 @@ fn refused(rt: HostRuntime) -> Result<(), Fail> {
     prints(&rt, heap, b"0\nn 2\nh 0 1\n", "refused 25 7 reading")
 }
 
-// A row of that many bytes, and no circuit.
-fn row(heap: Global, bytes: u32) -> Result<Vec<u8>, AllocError> {
-    let mut input = Vec::new(heap);
-    for _ in 0..bytes {
-        input.push(b'0')?;
-    }
-    Ok(input)
-}
-
+// A row of many bytes, and no circuit.
 #[test]
 fn long(rt: HostRuntime) -> Result<(), Fail> {
     let heap = rt.alloc();
-    let mut input = row(heap, 60_000)?;
+    let mut input = vec![in heap; b'0'; 60_000]?;
     prints(&rt, heap, input.as_slice(), "refused 21 0 reading")?;
     input.push(b'0')?;
     prints(&rt, heap, input.as_slice(), "long")

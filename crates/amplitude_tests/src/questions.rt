@@ -1,5 +1,5 @@
 // What is refused of rows and of spots, and what a refusal leaves.
-use crate::against_sums::{Sums, agrees, is_blank, loaded, sums_of};
+use crate::against_sums::{Sample, is_blank};
 use crate::making::{green, hadamard, leg, open};
 use archive::answer::amplitude;
 use diagrams::items::{Item, Kind, Setting};
@@ -13,6 +13,7 @@ use rows::slot::SLOTS;
 use rules::choice::{Choice, OrElse};
 use rules::rule::Rule;
 use rules::run::step;
+use std::alloc::Global;
 use std::process::Abort;
 use std::test::Fail;
 
@@ -39,101 +40,82 @@ fn items() -> [Item; 15] {
 }
 
 // The row is refused for that reason, the work diagram is left with nothing, and the diagram answers as before.
-fn refused(rt: &impl Abort, row: &[u8], reason: AskRefusal) -> Result<(), Fail> {
-    let items = items();
-    let sums = sums_of(&items);
-    let diagram = loaded(&items)?;
-    let mut work = diagram;
-    match amplitude(&diagram, row, &mut work) {
-        Ok(_) => return Err(Fail::new("answered")),
-        Err(told) => assert!(rt; told == reason),
-    }
+fn refused(rt: &impl Abort, heap: Global, row: &[u8], reason: AskRefusal) -> Result<(), Fail> {
+    let sample = Sample::of(heap, &items())?;
+    let mut work = sample.diagram;
+    assert!(rt; amplitude(&sample.diagram, row, &mut work) == Err(reason));
     assert!(rt; is_blank(&work));
-    agrees(rt, &sums, &diagram, &mut work)
+    sample.agrees(rt, &sample.diagram, &mut work)
 }
 
 #[test]
 fn wrong_rows(rt: HostRuntime) -> Result<(), Fail> {
-    refused(&rt, &[], AskRefusal::RowLength)?;
-    refused(&rt, &[0, 1], AskRefusal::RowLength)?;
-    refused(&rt, &[0, 1, 1, 0], AskRefusal::RowLength)?;
-    refused(&rt, &[1; 64], AskRefusal::RowLength)?;
-    refused(&rt, &[0; 65], AskRefusal::RowLength)?;
+    let heap = rt.alloc();
+    refused(&rt, heap, &[], AskRefusal::RowLength)?;
+    refused(&rt, heap, &[0, 1], AskRefusal::RowLength)?;
+    refused(&rt, heap, &[0, 1, 1, 0], AskRefusal::RowLength)?;
+    refused(&rt, heap, &[1; 64], AskRefusal::RowLength)?;
+    refused(&rt, heap, &[0; 65], AskRefusal::RowLength)?;
     for byte in [2, 48, 255] {
-        refused(&rt, &[byte, 0, 0], AskRefusal::RowByte(0))?;
-        refused(&rt, &[1, byte, 1], AskRefusal::RowByte(1))?;
-        refused(&rt, &[1, 0, byte], AskRefusal::RowByte(2))?;
-        refused(&rt, &[0, byte, byte], AskRefusal::RowByte(1))?;
+        refused(&rt, heap, &[byte, 0, 0], AskRefusal::RowByte(0))?;
+        refused(&rt, heap, &[1, byte, 1], AskRefusal::RowByte(1))?;
+        refused(&rt, heap, &[1, 0, byte], AskRefusal::RowByte(2))?;
+        refused(&rt, heap, &[0, byte, byte], AskRefusal::RowByte(1))?;
         // the length is judged first
-        refused(&rt, &[byte, byte], AskRefusal::RowLength)?;
-        refused(&rt, &[0, 0, 0, byte], AskRefusal::RowLength)?;
+        refused(&rt, heap, &[byte, byte], AskRefusal::RowLength)?;
+        refused(&rt, heap, &[0, 0, 0, byte], AskRefusal::RowLength)?;
     }
     Ok(())
 }
 
-fn same_spiders(one: &Diagram, other: &Diagram) -> bool {
-    let mut both = one.spiders();
-    both.toggle_all(&other.spiders());
-    both.is_empty()
-}
+impl Sample {
+    // A step at the spot is refused, and changes nothing.
+    fn misfits<R: Rule>(&self, rt: &impl Abort, rule: &R, spot: R::Spot) -> Result<(), Fail> {
+        let mut work = Diagram::new();
+        let mut next = self.diagram;
+        assert!(rt; step(rule, &mut next, spot) == Err(AskRefusal::NoFit));
+        assert!(rt; next.spiders() == self.diagram.spiders());
+        self.agrees(rt, &next, &mut work)
+    }
 
-// A step at the spot is refused, and changes nothing.
-fn misfits<R: Rule>(
-    rt: &impl Abort,
-    rule: &R,
-    spot: R::Spot,
-    sums: &Sums,
-    diagram: &Diagram,
-) -> Result<(), Fail> {
-    let mut work = Diagram::new();
-    let mut next = *diagram;
-    assert!(rt; step(rule, &mut next, spot) == Err(AskRefusal::NoFit));
-    assert!(rt; same_spiders(&next, diagram));
-    agrees(rt, sums, &next, &mut work)
-}
-
-// A step at the spot is made, takes so many spiders, and keeps the answers.
-fn fits<R: Rule>(
-    rt: &impl Abort,
-    rule: &R,
-    spot: R::Spot,
-    sums: &Sums,
-    diagram: &Diagram,
-    fewer: usize,
-) -> Result<(), Fail> {
-    let mut work = Diagram::new();
-    let mut next = *diagram;
-    step(rule, &mut next, spot)?;
-    assert!(rt; next.spiders().len().wrapping_add(fewer) == diagram.spiders().len());
-    agrees(rt, sums, &next, &mut work)
+    // A step at the spot is made, takes so many spiders, and keeps the answers.
+    fn fits<R: Rule>(
+        &self,
+        rt: &impl Abort,
+        rule: &R,
+        spot: R::Spot,
+        fewer: usize,
+    ) -> Result<(), Fail> {
+        let mut work = Diagram::new();
+        let mut next = self.diagram;
+        step(rule, &mut next, spot)?;
+        assert!(rt; next.spiders().len().wrapping_add(fewer) == self.diagram.spiders().len());
+        self.agrees(rt, &next, &mut work)
+    }
 }
 
 #[test]
 fn spots_of_one(rt: HostRuntime) -> Result<(), Fail> {
-    let items = items();
-    let sums = sums_of(&items);
-    let diagram = loaded(&items)?;
+    let sample = Sample::of(rt.alloc(), &items())?;
     // absent slots, and no slots at all
     for spot in [7, 255, 256, 319, SLOTS, SLOTS + 1, 1000, usize::MAX] {
-        misfits(&rt, &Complement, spot, &sums, &diagram)?;
-        misfits(&rt, &Removal, spot, &sums, &diagram)?;
+        sample.misfits(&rt, &Complement, spot)?;
+        sample.misfits(&rt, &Removal, spot)?;
     }
     for spot in [0, 2, 3, 4, 5] {
-        misfits(&rt, &Complement, spot, &sums, &diagram)?;
+        sample.misfits(&rt, &Complement, spot)?;
     }
     for spot in [0, 1, 2, 3, 5, 6] {
-        misfits(&rt, &Removal, spot, &sums, &diagram)?;
+        sample.misfits(&rt, &Removal, spot)?;
     }
-    fits(&rt, &Complement, 1, &sums, &diagram, 1)?;
-    fits(&rt, &Complement, 6, &sums, &diagram, 1)?;
-    fits(&rt, &Removal, 4, &sums, &diagram, 1)
+    sample.fits(&rt, &Complement, 1, 1)?;
+    sample.fits(&rt, &Complement, 6, 1)?;
+    sample.fits(&rt, &Removal, 4, 1)
 }
 
 #[test]
 fn spots_of_two(rt: HostRuntime) -> Result<(), Fail> {
-    let items = items();
-    let sums = sums_of(&items);
-    let diagram = loaded(&items)?;
+    let sample = Sample::of(rt.alloc(), &items())?;
     let spots = [
         (3, 2),
         (2, 2),
@@ -153,27 +135,25 @@ fn spots_of_two(rt: HostRuntime) -> Result<(), Fail> {
         (SLOTS, SLOTS + 1),
     ];
     for (first, second) in spots {
-        misfits(&rt, &Pivot, Pair { first, second }, &sums, &diagram)?;
+        sample.misfits(&rt, &Pivot, Pair { first, second })?;
     }
     let pair = Pair {
         first: 2,
         second: 3,
     };
-    fits(&rt, &Pivot, pair, &sums, &diagram, 2)
+    sample.fits(&rt, &Pivot, pair, 2)
 }
 
 #[test]
 fn spots_of_either(rt: HostRuntime) -> Result<(), Fail> {
-    let items = items();
-    let sums = sums_of(&items);
-    let diagram = loaded(&items)?;
+    let sample = Sample::of(rt.alloc(), &items())?;
     let rule = OrElse {
         first: Complement,
         second: Removal,
     };
-    misfits(&rt, &rule, Choice::First(4), &sums, &diagram)?;
-    misfits(&rt, &rule, Choice::Second(1), &sums, &diagram)?;
-    misfits(&rt, &rule, Choice::Second(1000), &sums, &diagram)?;
-    fits(&rt, &rule, Choice::First(1), &sums, &diagram, 1)?;
-    fits(&rt, &rule, Choice::Second(4), &sums, &diagram, 1)
+    sample.misfits(&rt, &rule, Choice::First(4))?;
+    sample.misfits(&rt, &rule, Choice::Second(1))?;
+    sample.misfits(&rt, &rule, Choice::Second(1000))?;
+    sample.fits(&rt, &rule, Choice::First(1), 1)?;
+    sample.fits(&rt, &rule, Choice::Second(4), 1)
 }

@@ -1,6 +1,10 @@
 // Small diagrams drawn by a linear congruential generator.
-use crate::making::{factor, spider, wire};
-use diagrams::items::{Colour, Item, Kind, Leg, Setting, Side};
+ghost use Rattle.std.specs.Prelude.{◌<◌};
+
+use crate::making::factor;
+use angles::Phase;
+use diagrams::items::{Colour, Item, Kind, Setting, Side};
+use std::alloc::{AllocError, Global};
 
 #[derive(Clone, Copy)]
 pub struct Random {
@@ -12,150 +16,100 @@ impl Random {
         Random { state: seed }
     }
 
-    // A number below a limit.
-    pub fn below(&mut self, limit: u8) -> u8 {
+    // A number below a limit, and 0 where the limit is 0.
+    fn below(&mut self, limit: u8) -> u8
+        ensures { 0 < limit → result < limit }
+    {
         self.state = self
             .state
             .wrapping_mul(6_364_136_223_846_793_005)
             .wrapping_add(1_442_695_040_888_963_407);
         let byte = ((self.state >> 52) & 0xff) as u8;
-        if limit == 0 { 0 } else { byte % limit }
+        byte.checked_rem(limit).unwrap_or(0)
     }
 
-    fn colour(&mut self) -> Colour {
-        match self.below(2) {
-            0 => Colour::Z,
-            _ => Colour::X,
-        }
-    }
-
-    fn kind(&mut self) -> Kind {
-        match self.below(2) {
-            0 => Kind::Plain,
-            _ => Kind::Hadamard,
-        }
-    }
-
-    fn side(&mut self) -> Side {
-        match self.below(2) {
-            0 => Side::Input,
-            _ => Side::Output,
-        }
-    }
-
-    fn setting(&mut self) -> Setting {
-        match self.below(4) {
-            0 => Setting::HeldZero,
-            1 => Setting::HeldOne,
-            _ => Setting::Open,
-        }
+    // One of some values.
+    fn pick<T: Copy, const N: usize>(&mut self, values: [T; N]) -> T
+        requires some { 0 < N }
+        requires few { N < 256 }
+    {
+        values[usize::from(self.below(N as u8))]
     }
 }
 
-// At most 5 spiders, 6 wires, 4 legs, 2 factors and 7 zeros.
-const MOST: usize = 24;
-
-#[derive(Clone, Copy)]
-pub struct Sample {
-    items: [Item; 24],
-    len: usize,
+// How many items are drawn: at most 5 spiders, 6 wires, 4 legs and 2 factors, and any number of zeros.
+#[derive(Clone, Copy, Default)]
+struct Drawn {
     spiders: u8,
     wires: u8,
     legs: u8,
     factors: u8,
 }
 
-impl Sample {
-    // The items drawn.
-    pub fn items(&self) -> &[Item] {
-        if self.len <= MOST {
-            &self.items[0..self.len]
-        } else {
-            &self.items
-        }
-    }
-
-    fn push(&mut self, item: Item) {
-        if self.len < MOST {
-            self.items[self.len] = item;
-            self.len += 1;
-        }
-    }
-
-    fn draw_spider(&mut self, random: &mut Random) {
+impl Drawn {
+    fn spider(&mut self, random: &mut Random) -> Option<Item> {
         if self.spiders >= 5 {
-            return;
+            return None;
         }
-        let colour = random.colour();
-        let quarters = random.below(4);
         self.spiders += 1;
-        self.push(spider(colour, quarters));
+        let colour = random.pick([Colour::Z, Colour::X]);
+        let phase = Phase::of(random.below(4));
+        Some(Item::spider(colour, phase))
     }
 
     // The ends are any two spiders so far, equal or not.
-    fn draw_wire(&mut self, random: &mut Random) {
+    fn wire(&mut self, random: &mut Random) -> Option<Item> {
         if self.spiders == 0 || self.wires >= 6 {
-            return;
+            return None;
         }
-        let first = random.below(self.spiders) as u16;
-        let second = random.below(self.spiders) as u16;
-        let kind = random.kind();
         self.wires += 1;
-        self.push(wire(first, second, kind));
+        let first = u16::from(random.below(self.spiders));
+        let second = u16::from(random.below(self.spiders));
+        let kind = random.pick([Kind::Plain, Kind::Hadamard]);
+        Some(Item::wire(first, second, kind))
     }
 
-    fn draw_leg(&mut self, random: &mut Random) {
+    fn leg(&mut self, random: &mut Random) -> Option<Item> {
         if self.spiders == 0 || self.legs >= 4 {
-            return;
+            return None;
         }
-        let side = random.side();
-        let spider = random.below(self.spiders) as u16;
-        let kind = random.kind();
-        let setting = random.setting();
         self.legs += 1;
-        self.push(Item::Leg(Leg {
-            side,
-            spider,
-            kind,
-            setting,
-        }));
+        let side = random.pick([Side::Input, Side::Output]);
+        let spider = u16::from(random.below(self.spiders));
+        let kind = random.pick([Kind::Plain, Kind::Hadamard]);
+        let setting = random.pick([
+            Setting::HeldZero,
+            Setting::HeldOne,
+            Setting::Open,
+            Setting::Open,
+        ]);
+        Some(Item::leg(side, spider, kind, setting))
     }
 
-    fn draw_factor(&mut self, random: &mut Random) {
+    fn factor(&mut self, random: &mut Random) -> Option<Item> {
         if self.factors >= 2 {
-            return;
+            return None;
         }
-        let k = random.below(7) as i32 - 3;
-        let m = random.below(8);
         self.factors += 1;
-        self.push(factor(k, m));
-    }
-
-    fn draw_zero(&mut self, random: &mut Random) {
-        if random.below(24) == 0 {
-            self.push(Item::Zero);
-        }
+        let k = i32::from(random.below(7)) - 3;
+        let m = random.below(8);
+        Some(factor(k, m))
     }
 }
 
 // Up to 39 draws of an item, of which some give none.
-pub fn draw(random: &mut Random) -> Sample {
-    let mut sample = Sample {
-        items: [Item::Zero; 24],
-        len: 0,
-        spiders: 0,
-        wires: 0,
-        legs: 0,
-        factors: 0,
-    };
+pub fn draw(heap: Global, random: &mut Random) -> Result<Vec<Item>, AllocError> {
+    let mut items = Vec::new(heap);
+    let mut drawn = Drawn::default();
     for _ in 0..random.below(40) {
-        match random.below(10) {
-            0 | 1 | 2 => sample.draw_spider(random),
-            3 | 4 | 5 => sample.draw_wire(random),
-            6 | 7 => sample.draw_leg(random),
-            8 => sample.draw_factor(random),
-            _ => sample.draw_zero(random),
-        }
+        let item = match random.below(10) {
+            0..=2 => drawn.spider(random),
+            3..=5 => drawn.wire(random),
+            6 | 7 => drawn.leg(random),
+            8 => drawn.factor(random),
+            _ => (random.below(24) == 0).then_some(Item::Zero),
+        };
+        items.extend(item)?;
     }
-    sample
+    Ok(items)
 }

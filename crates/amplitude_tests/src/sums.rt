@@ -1,9 +1,10 @@
 // The amplitude of a list of items, told from the items alone: the sum over all bits of its spiders.
-use diagrams::items::{Colour, Item, Kind, Setting};
+use diagrams::items::{Colour, Item, Kind, Leg, Setting};
 use parts::scalar::Scalar;
+use std::ops::Add;
 
 // a + b·w + c·w² + d·w³, where w⁴ is -1. No number here comes near its width.
-#[derive(Clone, Copy, Debug, PartialEq, Eq)]
+#[derive(Clone, Copy, Debug, Default, PartialEq, Eq)]
 pub struct Amount {
     a: i64,
     b: i64,
@@ -11,26 +12,10 @@ pub struct Amount {
     d: i64,
 }
 
-impl Amount {
-    fn zero() -> Amount {
-        Amount {
-            a: 0,
-            b: 0,
-            c: 0,
-            d: 0,
-        }
-    }
+impl Add for Amount {
+    type Output = Amount;
 
-    fn one() -> Amount {
-        Amount {
-            a: 1,
-            b: 0,
-            c: 0,
-            d: 0,
-        }
-    }
-
-    fn plus(self, other: Amount) -> Amount {
+    fn add(self, other: Amount) -> Amount {
         Amount {
             a: self.a.wrapping_add(other.a),
             b: self.b.wrapping_add(other.b),
@@ -38,33 +23,40 @@ impl Amount {
             d: self.d.wrapping_add(other.d),
         }
     }
+}
+
+impl Amount {
+    const ONE: Amount = Amount {
+        a: 1,
+        b: 0,
+        c: 0,
+        d: 0,
+    };
 
     // Times w that many times.
     fn turned(self, eighths: u8) -> Amount {
-        let mut amount = self;
-        for _ in 0..eighths {
-            amount = Amount {
-                a: 0i64.wrapping_sub(amount.d),
+        (0..eighths).fold(
+            self,
+            |amount, _| Amount {
+                a: amount.d.wrapping_neg(),
                 b: amount.a,
                 c: amount.b,
                 d: amount.c,
-            };
-        }
-        amount
+            },
+        )
     }
 
     // Times √2 = w - w³ that many times, and as it is where that is none.
     fn rooted(self, times: i32) -> Amount {
-        let mut amount = self;
-        for _ in 0..times {
-            amount = Amount {
+        (0..times).fold(
+            self,
+            |amount, _| Amount {
                 a: amount.b.wrapping_sub(amount.d),
                 b: amount.a.wrapping_add(amount.c),
                 c: amount.b.wrapping_add(amount.d),
                 d: amount.c.wrapping_sub(amount.a),
-            };
-        }
-        amount
+            },
+        )
     }
 }
 
@@ -77,7 +69,7 @@ pub struct Sum {
 
 impl Sum {
     pub fn is_zero(self) -> bool {
-        self.amount == Amount::zero()
+        self.amount == Amount::default()
     }
 
     // Whether the scalar is that amount.
@@ -86,7 +78,7 @@ impl Sum {
             Scalar::Zero => self.is_zero(),
             Scalar::Root(k, m) => {
                 let mine = self.amount.rooted(self.power.wrapping_sub(k));
-                let told = Amount::one().turned(m.eighths());
+                let told = Amount::ONE.turned(m.eighths());
                 mine == told.rooted(k.wrapping_sub(self.power))
             }
         }
@@ -95,144 +87,113 @@ impl Sum {
 
 // The bit at a place, and 0 past the last.
 pub fn bit(bits: u32, place: u16) -> bool {
-    place < 32 && (bits >> (place as u32)) & 1 == 1
+    place < 32 && (bits >> u32::from(place)) & 1 == 1
 }
 
+// The colour of the spider of that number, and Z where there is none.
 fn colour_of(items: &[Item], number: u16) -> Colour {
-    let mut at = 0u16;
-    for item in items {
-        if let Item::Spider(spider) = *item {
-            if at == number {
-                return spider.colour;
-            }
-            at = at.wrapping_add(1);
-        }
-    }
-    Colour::Z
+    items
+        .iter()
+        .filter_map(|item| match item {
+            Item::Spider(spider) => Some(spider.colour),
+            _ => None,
+        })
+        .nth(usize::from(number))
+        .unwrap_or(Colour::Z)
 }
 
-// Whether a wire or leg is an effective Hadamard one, from its kind and the spider at one end.
-fn is_hadamard(items: &[Item], kind: Kind, spider: u16) -> bool {
-    let boxed = match kind {
-        Kind::Plain => false,
-        Kind::Hadamard => true,
-    };
-    match colour_of(items, spider) {
-        Colour::Z => boxed,
-        Colour::X => !boxed,
-    }
-}
-
-// The same for a wire, from the spiders at both ends.
-fn is_hadamard_wire(items: &[Item], kind: Kind, first: u16, second: u16) -> bool {
-    let other = match is_hadamard(items, kind, first) {
-        false => Kind::Plain,
-        true => Kind::Hadamard,
-    };
-    is_hadamard(items, other, second)
+// Whether a wire or leg is an effective Hadamard one, from its kind and the spiders at its ends.
+fn is_hadamard(items: &[Item], kind: Kind, ends: &[u16]) -> bool {
+    ends.iter().fold(kind == Kind::Hadamard, |boxed, end| {
+        boxed != (colour_of(items, *end) == Colour::X)
+    })
 }
 
 // The amount times what a wire or leg is between two bits.
 fn joined(amount: Amount, hadamard: bool, first: bool, second: bool) -> Amount {
-    if hadamard {
-        return if first && second {
-            amount.turned(4)
-        } else {
-            amount
-        };
-    }
-    if first == second {
-        amount
-    } else {
-        Amount::zero()
+    match hadamard {
+        true if first && second => amount.turned(4),
+        false if first != second => Amount::default(),
+        _ => amount,
     }
 }
 
 // The term of one way to give bits to the spiders, at a row.
 fn term(items: &[Item], bits: u32, row: u32) -> Amount {
-    let mut amount = Amount::one();
-    let mut spiders = 0u16;
-    let mut opened = 0u16;
+    let mut amount = Amount::ONE;
+    // the bits of the spiders and of the open legs to come
+    let mut spiders = (0..32).map(|place| bit(bits, place));
+    let mut opened = (0..32).map(|place| bit(row, place));
     for item in items {
-        match *item {
-            Item::Spider(spider) => {
-                if bit(bits, spiders) {
-                    amount = amount.turned(spider.phase.to_turn().eighths());
-                }
-                spiders = spiders.wrapping_add(1);
-            }
+        amount = match *item {
+            Item::Spider(spider) => match spiders.next() {
+                Some(true) => amount.turned(spider.phase.to_turn().eighths()),
+                _ => amount,
+            },
             Item::Wire(wire) => {
-                let hadamard = is_hadamard_wire(items, wire.kind, wire.first, wire.second);
-                amount = joined(
+                let hadamard = is_hadamard(items, wire.kind, &[wire.first, wire.second]);
+                joined(
                     amount,
                     hadamard,
                     bit(bits, wire.first),
                     bit(bits, wire.second),
-                );
+                )
             }
             Item::Leg(leg) => {
                 let own = match leg.setting {
-                    Setting::Open => bit(row, opened),
+                    Setting::Open => opened.next() == Some(true),
                     Setting::HeldZero => false,
                     Setting::HeldOne => true,
                 };
-                if matches!(leg.setting, Setting::Open) {
-                    opened = opened.wrapping_add(1);
-                }
-                let hadamard = is_hadamard(items, leg.kind, leg.spider);
-                amount = joined(amount, hadamard, bit(bits, leg.spider), own);
+                let hadamard = is_hadamard(items, leg.kind, &[leg.spider]);
+                joined(amount, hadamard, bit(bits, leg.spider), own)
             }
-            Item::Factor(factor) => amount = amount.turned(factor.m.eighths()),
-            Item::Zero => amount = Amount::zero(),
-        }
+            Item::Factor(factor) => amount.turned(factor.m.eighths()),
+            Item::Zero => Amount::default(),
+        };
     }
     amount
 }
 
 // The power of √2 that factors give, and that Hadamard wires and legs take.
 fn power(items: &[Item]) -> i32 {
-    let mut power = 0i32;
-    for item in items {
-        let more = match *item {
-            Item::Wire(wire) if is_hadamard_wire(items, wire.kind, wire.first, wire.second) => -1,
-            Item::Leg(leg) if is_hadamard(items, leg.kind, leg.spider) => -1,
+    items
+        .iter()
+        .map(|item| match *item {
+            Item::Wire(wire) if is_hadamard(items, wire.kind, &[wire.first, wire.second]) => -1,
+            Item::Leg(leg) if is_hadamard(items, leg.kind, &[leg.spider]) => -1,
             Item::Factor(factor) => factor.k.exponent(),
             _ => 0,
-        };
-        power = power.wrapping_add(more);
-    }
-    power
+        })
+        .fold(0i32, |power, more| power.wrapping_add(more))
 }
 
 // How many ways there are to give bits to the spiders.
 fn ways(items: &[Item]) -> u32 {
-    let mut ways = 1u32;
-    for item in items {
-        if matches!(*item, Item::Spider(_)) {
-            ways = ways.wrapping_mul(2);
-        }
-    }
-    ways
+    items
+        .iter()
+        .filter(|item| matches!(item, Item::Spider(_)))
+        .fold(1u32, |ways, _| ways.wrapping_mul(2))
 }
 
 // How many legs are open.
 pub fn open_legs(items: &[Item]) -> usize {
-    let mut opened = 0usize;
-    for item in items {
-        if let Item::Leg(leg) = *item {
-            if matches!(leg.setting, Setting::Open) {
-                opened = opened.wrapping_add(1);
-            }
-        }
-    }
-    opened
+    items
+        .iter()
+        .filter(|item| matches!(
+            item,
+            Item::Leg(Leg {
+                setting: Setting::Open,
+                ..
+            })
+        ))
+        .count()
 }
 
 pub fn sum_at(items: &[Item], row: u32) -> Sum {
-    let mut amount = Amount::zero();
-    for bits in 0..ways(items) {
-        amount = amount.plus(term(items, bits, row));
-    }
+    let amount = (0..ways(items))
+        .map(|bits| term(items, bits, row))
+        .fold(Amount::default(), |sum, term| sum + term);
     Sum {
         power: power(items),
         amount,

@@ -1,33 +1,24 @@
 // Worked amounts, with the steps that they take.
-use crate::against_sums::loaded;
-use crate::making::{green, hadamard, wire};
+use crate::against_sums::{loaded, loaded_from};
+use crate::making::{green, hadamard};
+use angles::Turn;
 use archive::answer::{Answer, amplitude};
 use circuits::text::CircuitText;
 use diagrams::items::{Item, Kind};
 use graphlike::Diagram;
-use loader::load::load;
 use parts::scalar::Scalar;
 use reducers::reduce::reduce;
 use std::process::Abort;
 use std::test::Fail;
 
-// The answer is √2^k·w^m after that many steps.
-pub fn tells(rt: &impl Abort, answer: Answer, k: i32, m: u8, steps: usize) -> Result<(), Fail> {
-    assert_eq!(rt; answer.steps, steps);
-    match answer.scalar {
-        Scalar::Zero => Err(Fail::new("zero")),
-        Scalar::Root(exponent, turn) => {
-            assert_eq!(rt; exponent, k);
-            assert_eq!(rt; turn.eighths(), m);
-            Ok(())
-        }
-    }
+// √2^k·w^m
+pub fn root(k: i32, m: u8) -> Scalar {
+    Scalar::Root(k, Turn::of(m))
 }
 
-// The answer is zero after that many steps.
-fn tells_zero(rt: &impl Abort, answer: Answer, steps: usize) {
-    assert_eq!(rt; answer.steps, steps);
-    assert!(rt; matches!(answer.scalar, Scalar::Zero));
+// The answer is that scalar after that many steps.
+pub fn tells(rt: &impl Abort, answer: Answer, scalar: Scalar, steps: usize) {
+    assert_eq!(rt; answer, Answer { scalar, steps });
 }
 
 pub fn closed(items: &[Item]) -> Result<Answer, Fail> {
@@ -50,33 +41,42 @@ fn triangle(quarters: u8) -> [Item; 6] {
 
 #[test]
 fn closed_diagrams(rt: HostRuntime) -> Result<(), Fail> {
-    tells(&rt, closed(&[])?, 0, 0, 0)?;
-    tells(&rt, closed(&[green(0)])?, 2, 0, 1)?;
-    tells(&rt, closed(&[green(1)])?, 1, 1, 1)?;
-    tells_zero(&rt, closed(&[green(2)])?, 1);
-    tells(&rt, closed(&[green(3)])?, 1, 7, 1)?;
-    tells(&rt, closed(&[green(1), hadamard(0, 0)])?, 0, 7, 1)?;
+    tells(&rt, closed(&[])?, root(0, 0), 0);
+    tells(&rt, closed(&[green(0)])?, root(2, 0), 1);
+    tells(&rt, closed(&[green(1)])?, root(1, 1), 1);
+    tells(&rt, closed(&[green(2)])?, Scalar::Zero, 1);
+    tells(&rt, closed(&[green(3)])?, root(1, 7), 1);
+    tells(&rt, closed(&[green(1), hadamard(0, 0)])?, root(0, 7), 1);
     let twice = [green(0), green(0), hadamard(0, 1), hadamard(0, 1)];
-    tells(&rt, closed(&twice)?, 2, 0, 2)?;
-    tells(&rt, closed(&[green(2), green(2), hadamard(0, 1)])?, 1, 4, 1)?;
-    tells(&rt, closed(&triangle(1))?, 2, 1, 3)?;
-    tells_zero(&rt, closed(&triangle(0))?, 2);
+    tells(&rt, closed(&twice)?, root(2, 0), 2);
+    tells(
+        &rt,
+        closed(&[green(2), green(2), hadamard(0, 1)])?,
+        root(1, 4),
+        1,
+    );
+    tells(&rt, closed(&triangle(1))?, root(2, 1), 3);
+    tells(&rt, closed(&triangle(0))?, Scalar::Zero, 2);
     Ok(())
 }
 
 fn asked(text: &[u8], row: &[u8]) -> Result<Answer, Fail> {
-    let mut diagram = Diagram::new();
+    let diagram = loaded_from(&mut CircuitText::new(text))?;
     let mut work = Diagram::new();
-    let mut source = CircuitText::new(text);
-    load(&mut diagram, &mut source)?;
     Ok(amplitude(&diagram, row, &mut work)?)
 }
 
 #[test]
 fn circuits_by_text(rt: HostRuntime) -> Result<(), Fail> {
-    tells(&rt, asked(b"n 1\nh 0\n", &[1, 1])?, -1, 4, 2)?;
-    tells(&rt, asked(b"n 1\ns 0\n", &[1, 1])?, 0, 2, 3)?;
-    tells(&rt, asked(b"n 2\nh 0\nc 0 1\n", &[0, 0, 1, 1])?, -1, 0, 4)
+    tells(&rt, asked(b"n 1\nh 0\n", &[1, 1])?, root(-1, 4), 2);
+    tells(&rt, asked(b"n 1\ns 0\n", &[1, 1])?, root(0, 2), 3);
+    tells(
+        &rt,
+        asked(b"n 2\nh 0\nc 0 1\n", &[0, 0, 1, 1])?,
+        root(-1, 0),
+        4,
+    );
+    Ok(())
 }
 
 // A reduction with that budget makes so many steps, and is finished or not.
@@ -114,7 +114,7 @@ fn budgets(rt: HostRuntime) -> Result<(), Fail> {
     // a plain wire makes one spider of two
     spends(
         &rt,
-        &[green(1), green(2), wire(0, 1, Kind::Plain)],
+        &[green(1), green(2), Item::wire(0, 1, Kind::Plain)],
         1,
         1,
         true,

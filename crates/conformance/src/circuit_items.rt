@@ -1,41 +1,23 @@
 // The items of circuit texts, told one by one.
 use angles::{Phase, Turn};
 use circuits::text::CircuitText;
-use diagrams::items::{Colour, Factor, Item, Kind, Leg, Setting, Side, Spider, Wire};
+use diagrams::items::{Colour, Item, Kind, Setting, Side};
 use diagrams::power::Power;
 use diagrams::source::Source;
 use std::process::Abort;
 
-fn spider(colour: Colour, quarters: u8) -> Item {
-    let phase = Phase::of(quarters);
-    Item::Spider(Spider { colour, phase })
+// A spider of phase 0.
+fn still(colour: Colour) -> Item {
+    Item::spider(colour, Phase::of(0))
 }
 
-fn wire(first: u16, second: u16, kind: Kind) -> Item {
-    Item::Wire(Wire {
-        first,
-        second,
-        kind,
-    })
-}
-
+// An open plain leg.
 fn leg(side: Side, spider: u16) -> Item {
-    Item::Leg(Leg {
-        side,
-        spider,
-        kind: Kind::Plain,
-        setting: Setting::Open,
-    })
+    Item::leg(side, spider, Kind::Plain, Setting::Open)
 }
 
-fn root_two() -> Item {
-    Item::Factor(Factor {
-        k: Power::of(1),
-        m: Turn::of(0),
-    })
-}
-
-// The text gives these items in order, and then the end, more than once.
+// The text gives these items in order, and then the end, more than once. The layers' tests ask any source so; no
+// crate below both can hold it, since only tests may take `Abort`.
 fn gives(rt: &impl Abort, text: &[u8], items: &[Item]) {
     let mut source = CircuitText::new(text);
     for item in items {
@@ -52,10 +34,10 @@ fn single(rt: &impl Abort, text: &[u8], colour: Colour, quarters: u8, kind: Kind
         rt,
         text,
         &[
-            spider(Colour::Z, 0),
+            still(Colour::Z),
             leg(Side::Input, 0),
-            spider(colour, quarters),
-            wire(0, 1, kind),
+            Item::spider(colour, Phase::of(quarters)),
+            Item::wire(0, 1, kind),
             leg(Side::Output, 1),
         ],
     );
@@ -66,19 +48,15 @@ fn no_gate(rt: HostRuntime) {
     gives(
         &rt,
         b"n 1\n",
-        &[
-            spider(Colour::Z, 0),
-            leg(Side::Input, 0),
-            leg(Side::Output, 0),
-        ],
+        &[still(Colour::Z), leg(Side::Input, 0), leg(Side::Output, 0)],
     );
     gives(
         &rt,
         b"n 2\n",
         &[
-            spider(Colour::Z, 0),
+            still(Colour::Z),
             leg(Side::Input, 0),
-            spider(Colour::Z, 0),
+            still(Colour::Z),
             leg(Side::Input, 1),
             leg(Side::Output, 0),
             leg(Side::Output, 1),
@@ -108,18 +86,18 @@ fn double(
         rt,
         text,
         &[
-            spider(Colour::Z, 0),
+            still(Colour::Z),
             leg(Side::Input, 0),
-            spider(Colour::Z, 0),
+            still(Colour::Z),
             leg(Side::Input, 1),
-            spider(Colour::Z, 0),
-            wire(0, 2, Kind::Hadamard),
-            spider(Colour::Z, 0),
-            spider(second, 0),
-            wire(lasts.0, 3, Kind::Plain),
-            wire(lasts.1, 4, Kind::Plain),
-            wire(3, 4, between),
-            root_two(),
+            still(Colour::Z),
+            Item::wire(0, 2, Kind::Hadamard),
+            still(Colour::Z),
+            still(second),
+            Item::wire(lasts.0, 3, Kind::Plain),
+            Item::wire(lasts.1, 4, Kind::Plain),
+            Item::wire(3, 4, between),
+            Item::factor(Power::of(1), Turn::of(0)),
             leg(Side::Output, ends.0),
             leg(Side::Output, ends.1),
         ],
@@ -167,11 +145,11 @@ fn two_qubits(rt: HostRuntime) {
 fn two_digits(rt: HostRuntime) {
     let mut source = CircuitText::new(b"n 11\nx 10\n");
     for qubit in 0..11 {
-        assert!(rt; source.next() == Ok(Some(spider(Colour::Z, 0))));
+        assert!(rt; source.next() == Ok(Some(still(Colour::Z))));
         assert!(rt; source.next() == Ok(Some(leg(Side::Input, qubit))));
     }
-    assert!(rt; source.next() == Ok(Some(spider(Colour::X, 2))));
-    assert!(rt; source.next() == Ok(Some(wire(10, 11, Kind::Plain))));
+    assert!(rt; source.next() == Ok(Some(Item::spider(Colour::X, Phase::of(2)))));
+    assert!(rt; source.next() == Ok(Some(Item::wire(10, 11, Kind::Plain))));
     for qubit in 0..10 {
         assert!(rt; source.next() == Ok(Some(leg(Side::Output, qubit))));
     }

@@ -1,5 +1,6 @@
 // Every refusal of circuit text, with its place.
 use circuits::text::CircuitText;
+use deposits::tally::tally_all;
 use diagrams::source::Source;
 use refusals::Fault;
 use refusals::reason::Reason;
@@ -10,30 +11,15 @@ use std::test::Fail;
 // Asks up to the end or the fault, and once more, which gives the same again.
 fn fault_of(text: &[u8]) -> Option<Fault> {
     let mut source = CircuitText::new(text);
-    for _ in 0..u32::MAX {
-        match source.next() {
-            Ok(Some(_)) => {}
-            Ok(None) => return None,
-            Err(fault) => {
-                return match source.next() {
-                    Err(again) if again == fault => Some(fault),
-                    _ => None,
-                };
-            }
-        }
-    }
-    None
+    let fault = tally_all(&mut source).err()?;
+    (source.next() == Err(fault)).then_some(fault)
 }
 
 fn refused(rt: &impl Abort, text: &[u8], number: u8, place: usize) -> Result<(), Fail> {
-    match fault_of(text) {
-        Some(fault) => {
-            assert_eq!(rt; fault.number(), number);
-            assert_eq!(rt; fault.place(), place);
-            Ok(())
-        }
-        None => Err(Fail::new("accepted")),
-    }
+    let fault = fault_of(text).ok_or("accepted")?;
+    assert_eq!(rt; fault.number(), number);
+    assert_eq!(rt; fault.place(), place);
+    Ok(())
 }
 
 fn accepted(rt: &impl Abort, text: &[u8]) {
@@ -135,23 +121,20 @@ const WANTED: [u8; 14] = [21, 22, 22, 25, 21, 22, 22, 22, 22, 25, 21, 22, 22, 25
 #[test]
 fn strange_bytes(rt: HostRuntime) -> Result<(), Fail> {
     accepted(&rt, &WHOLE);
-    for place in 0..14 {
+    for (place, wanted) in WANTED.iter().enumerate() {
         for strange in [0x00, 0xff, 0x80, 0x7f] {
             let mut text = WHOLE;
             text[place] = strange;
-            refused(&rt, &text, WANTED[place], place)?;
+            refused(&rt, &text, *wanted, place)?;
         }
     }
     Ok(())
 }
 
 // One qubit and that many gates: four bytes for each line.
-fn long_text(heap: Global, gates: u32) -> Result<Vec<u8>, AllocError> {
-    let mut text = Vec::new(heap);
-    text.extend_from_slice(b"n 1\n")?;
-    for _ in 0..gates {
-        text.extend_from_slice(b"s 0\n")?;
-    }
+fn long_text(heap: Global, gates: usize) -> Result<Vec<u8>, AllocError> {
+    let mut text = b"n 1\n".to_vec(heap)?;
+    text.extend_from_slice(b"s 0\n".repeat(heap, gates)?.as_slice())?;
     Ok(text)
 }
 

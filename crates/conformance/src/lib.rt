@@ -6,6 +6,8 @@ mod circuit_items;
 #[cfg(test)]
 mod circuit_refusals;
 #[cfg(test)]
+mod lines;
+#[cfg(test)]
 mod program;
 #[cfg(test)]
 mod slots;

@@ -1,6 +1,6 @@
 // Angles, powers, and the number, place and layer of every refusal.
 use angles::{Phase, Turn};
-use diagrams::items::Item;
+use diagrams::items::{Colour, Factor, Item, Kind, Leg, Setting, Side, Spider, Wire};
 use diagrams::power::Power;
 use diagrams::source::{Listed, Source};
 use refusals::reason::Reason;
@@ -33,7 +33,7 @@ fn eighth_turns(rt: HostRuntime) {
         assert_eq!(rt; (Turn::of(m) + -Turn::of(m)).eighths(), 0);
         match Turn::of(m).to_phase() {
             Some(phase) => assert_eq!(rt; 2 * phase.quarters(), m),
-            None => assert!(rt; m == 1 || m == 3 || m == 5 || m == 7),
+            None => assert!(rt; matches!(m, 1 | 3 | 5 | 7)),
         }
     }
     assert_eq!(rt; Turn::of(255).eighths(), 7);
@@ -44,10 +44,8 @@ fn eighth_turns(rt: HostRuntime) {
 #[test]
 fn powers(rt: HostRuntime) -> Result<(), Fail> {
     for exponent in [-30_000, -1, 0, 1, 30_000] {
-        match Power::new(exponent) {
-            Some(power) => assert_eq!(rt; power.exponent(), exponent),
-            None => return Err(Fail::new("within the limit")),
-        }
+        let power = Power::new(exponent).ok_or("within the limit")?;
+        assert_eq!(rt; power.exponent(), exponent);
         assert_eq!(rt; Power::of(exponent).exponent(), exponent);
     }
     for exponent in [i32::MIN, -30_001, 30_001, i32::MAX] {
@@ -106,6 +104,29 @@ fn loading_asking_writing(rt: HostRuntime) {
     tells(&rt, &WriteRefusal::FactorOutOfRange, 42, 0, Layer::Writing);
     tells(&rt, &WriteRefusal::TooManySpiders, 43, 0, Layer::Writing);
     tells(&rt, &WriteRefusal::WrongCount, 44, 0, Layer::Writing);
+}
+
+// An item that is made in one call is the one that its parts make.
+#[test]
+fn made_items(rt: HostRuntime) {
+    let (colour, phase) = (Colour::X, Phase::of(3));
+    assert!(rt; Item::spider(colour, phase) == Item::Spider(Spider { colour, phase }));
+    let (first, second, kind) = (3, 5, Kind::Hadamard);
+    let wire = Wire {
+        first,
+        second,
+        kind,
+    };
+    assert!(rt; Item::wire(first, second, kind) == Item::Wire(wire));
+    let leg = Leg {
+        side: Side::Output,
+        spider: 7,
+        kind,
+        setting: Setting::HeldOne,
+    };
+    assert!(rt; Item::leg(leg.side, leg.spider, leg.kind, leg.setting) == Item::Leg(leg));
+    let (k, m) = (Power::of(-7), Turn::of(5));
+    assert!(rt; Item::factor(k, m) == Item::Factor(Factor { k, m }));
 }
 
 #[test]

@@ -1,6 +1,8 @@
 // The adjoint of each kind of item.
-use crate::asking::{factor, gives, leg, spider, wire};
+use crate::asking::gives;
+use angles::{Phase, Turn};
 use diagrams::items::{Colour, Item, Kind, Setting, Side};
+use diagrams::power::Power;
 use diagrams::source::Listed;
 use layers::adjoint::Adjoint;
 use std::process::Abort;
@@ -13,19 +15,31 @@ fn adjoint_of(rt: &impl Abort, item: Item, other: Item) {
 #[test]
 fn spiders(rt: HostRuntime) {
     for colour in [Colour::Z, Colour::X] {
-        adjoint_of(&rt, spider(colour, 0), spider(colour, 0));
-        adjoint_of(&rt, spider(colour, 1), spider(colour, 3));
-        adjoint_of(&rt, spider(colour, 2), spider(colour, 2));
-        adjoint_of(&rt, spider(colour, 3), spider(colour, 1));
+        for (quarters, other) in [(0, 0), (1, 3), (2, 2), (3, 1)] {
+            adjoint_of(
+                &rt,
+                Item::spider(colour, Phase::of(quarters)),
+                Item::spider(colour, Phase::of(other)),
+            );
+        }
     }
 }
 
 #[test]
 fn factors(rt: HostRuntime) {
-    for k in [-30_000, -1, 0, 7, 30_000] {
-        adjoint_of(&rt, factor(k, 0), factor(k, 0));
+    for exponent in [-30_000, -1, 0, 7, 30_000] {
+        let k = Power::of(exponent);
+        adjoint_of(
+            &rt,
+            Item::factor(k, Turn::of(0)),
+            Item::factor(k, Turn::of(0)),
+        );
         for m in 1..8 {
-            adjoint_of(&rt, factor(k, m), factor(k, 8 - m));
+            adjoint_of(
+                &rt,
+                Item::factor(k, Turn::of(m)),
+                Item::factor(k, Turn::of(8 - m)),
+            );
         }
     }
 }
@@ -35,13 +49,13 @@ fn legs(rt: HostRuntime) {
     for setting in [Setting::Open, Setting::HeldZero, Setting::HeldOne] {
         adjoint_of(
             &rt,
-            leg(Side::Input, 4, setting),
-            leg(Side::Output, 4, setting),
+            Item::leg(Side::Input, 4, Kind::Plain, setting),
+            Item::leg(Side::Output, 4, Kind::Plain, setting),
         );
         adjoint_of(
             &rt,
-            leg(Side::Output, 9, setting),
-            leg(Side::Input, 9, setting),
+            Item::leg(Side::Output, 9, Kind::Plain, setting),
+            Item::leg(Side::Input, 9, Kind::Plain, setting),
         );
     }
 }
@@ -49,8 +63,9 @@ fn legs(rt: HostRuntime) {
 #[test]
 fn what_stays(rt: HostRuntime) {
     for kind in [Kind::Plain, Kind::Hadamard] {
-        adjoint_of(&rt, wire(3, 5, kind), wire(3, 5, kind));
-        adjoint_of(&rt, wire(5, 3, kind), wire(5, 3, kind));
+        for wire in [Item::wire(3, 5, kind), Item::wire(5, 3, kind)] {
+            adjoint_of(&rt, wire, wire);
+        }
     }
     adjoint_of(&rt, Item::Zero, Item::Zero);
 }

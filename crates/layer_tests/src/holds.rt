@@ -1,6 +1,11 @@
 // Rows of settings that are refused, and which legs a hold sets.
-use crate::asking::{begins, factor, gives, leg, settings, spider, wire};
+ghost use Rattle.std.specs.Prelude.{◌≤◌};
+
+use crate::asking::{begins, gives};
+use angles::{Phase, Turn};
+use diagrams::items::Setting::{HeldOne, HeldZero, Open};
 use diagrams::items::{Colour, Item, Kind, Setting, Side};
+use diagrams::power::Power;
 use diagrams::source::Listed;
 use layers::settings::Settings;
 use refusals::Layer;
@@ -9,20 +14,16 @@ use std::process::Abort;
 use std::test::Fail;
 
 fn refused(rt: &impl Abort, row: &[u8], place: usize) -> Result<(), Fail> {
-    match Settings::new(row) {
-        Ok(_) => Err(Fail::new("taken")),
-        Err(refusal) => {
-            assert_eq!(rt; refusal.number(), 51);
-            assert_eq!(rt; refusal.place(), place);
-            assert_eq!(rt; refusal.layer(), Layer::Asking);
-            Ok(())
-        }
-    }
+    let refusal = Settings::new(row).err().ok_or("taken")?;
+    assert_eq!(rt; refusal.number(), 51);
+    assert_eq!(rt; refusal.place(), place);
+    assert_eq!(rt; refusal.layer(), Layer::Asking);
+    Ok(())
 }
 
 #[test]
 fn too_many(rt: HostRuntime) -> Result<(), Fail> {
-    assert_eq!(rt; settings(&[2; 64])?.len(), 64);
+    assert_eq!(rt; Settings::new(&[2; 64])?.len(), 64);
     refused(&rt, &[2; 65], 64)?;
     refused(&rt, &[0; 65], 64)?;
     refused(&rt, &[1; 200], 64)
@@ -34,6 +35,7 @@ fn no_setting(rt: HostRuntime) -> Result<(), Fail> {
     refused(&rt, &[0, 1, 2, 3], 3)?;
     refused(&rt, &[0, 4, 2, 3], 1)?;
     refused(&rt, &[255, 255], 0)?;
+    // (the place is what is tested: each is refused by its number)
     for place in 0..64 {
         let mut row = [1; 64];
         row[place] = 3;
@@ -57,87 +59,95 @@ fn both(rt: HostRuntime) -> Result<(), Fail> {
 
 #[test]
 fn one_by_one(rt: HostRuntime) -> Result<(), Fail> {
-    let none = settings(&[])?;
+    let none = Settings::new(&[])?;
     assert_eq!(rt; none.len(), 0);
     assert_eq!(rt; none.at(0), Setting::Open);
-    let some = settings(&[0, 1, 2])?;
+    let some = Settings::new(&[0, 1, 2])?;
     assert_eq!(rt; some.len(), 3);
-    assert_eq!(rt; some.at(0), Setting::HeldZero);
-    assert_eq!(rt; some.at(1), Setting::HeldOne);
-    assert_eq!(rt; some.at(2), Setting::Open);
-    assert_eq!(rt; some.at(3), Setting::Open);
-    assert_eq!(rt; some.at(64), Setting::Open);
-    assert_eq!(rt; some.at(usize::MAX), Setting::Open);
+    for (leg, setting) in [
+        (0, HeldZero),
+        (1, HeldOne),
+        (2, Open),
+        (3, Open),
+        (64, Open),
+        (usize::MAX, Open),
+    ] {
+        assert_eq!(rt; some.at(leg), setting, "at {leg}");
+    }
     Ok(())
 }
 
-// A leg on spider 0: open, held at 0 and held at 1.
-fn open() -> Item {
-    leg(Side::Output, 0, Setting::Open)
+// A leg on spider 0.
+fn leg(setting: Setting) -> Item {
+    Item::leg(Side::Output, 0, Kind::Plain, setting)
 }
 
-fn zero() -> Item {
-    leg(Side::Output, 0, Setting::HeldZero)
-}
-
-fn one() -> Item {
-    leg(Side::Output, 0, Setting::HeldOne)
-}
-
-fn held(rt: &impl Abort, row: &[u8], before: &[Item], after: &[Item]) -> Result<(), Fail> {
-    gives(rt, &mut settings(row)?.over(Listed::new(before)), after);
+// Legs with the settings before have those after, once they are held at the row.
+fn held<const N: usize>(
+    rt: &impl Abort,
+    row: &[u8],
+    before: [Setting; N],
+    after: [Setting; N],
+) -> Result<(), Fail>
+    requires { N ≤ 64 }
+{
+    let legs = before.map(leg);
+    gives(
+        rt,
+        &mut Settings::new(row)?.over(Listed::new(&legs)),
+        &after.map(leg),
+    );
     Ok(())
 }
 
 #[test]
 fn open_legs(rt: HostRuntime) -> Result<(), Fail> {
-    held(&rt, &[], &[open(), open()], &[open(), open()])?;
-    held(&rt, &[0], &[open(), open()], &[zero(), open()])?;
-    held(&rt, &[2, 1], &[open(), open()], &[open(), one()])?;
-    held(&rt, &[1, 0, 1], &[open(), open()], &[one(), zero()])
+    held(&rt, &[], [Open, Open], [Open, Open])?;
+    held(&rt, &[0], [Open, Open], [HeldZero, Open])?;
+    held(&rt, &[2, 1], [Open, Open], [Open, HeldOne])?;
+    held(&rt, &[1, 0, 1], [Open, Open], [HeldOne, HeldZero])
 }
 
 // Held legs keep their bit, and count.
 #[test]
 fn held_legs(rt: HostRuntime) -> Result<(), Fail> {
-    held(&rt, &[1, 1], &[zero(), open()], &[zero(), one()])?;
-    held(&rt, &[0, 0], &[one(), open()], &[one(), zero()])?;
+    held(&rt, &[1, 1], [HeldZero, Open], [HeldZero, HeldOne])?;
+    held(&rt, &[0, 0], [HeldOne, Open], [HeldOne, HeldZero])?;
     held(
         &rt,
         &[0, 2, 1],
-        &[one(), zero(), open()],
-        &[one(), zero(), one()],
+        [HeldOne, HeldZero, Open],
+        [HeldOne, HeldZero, HeldOne],
     )?;
-    held(&rt, &[0], &[one(), open()], &[one(), open()])
+    held(&rt, &[0], [HeldOne, Open], [HeldOne, Open])
+}
+
+// What a source gives with one leg at each of two settings, and other items between.
+fn among_others(first: Setting, second: Setting) -> [Item; 6] {
+    [
+        Item::spider(Colour::X, Phase::of(3)),
+        leg(first),
+        Item::wire(0, 0, Kind::Hadamard),
+        Item::factor(Power::of(-5), Turn::of(3)),
+        leg(second),
+        Item::Zero,
+    ]
 }
 
 #[test]
 fn other_items(rt: HostRuntime) -> Result<(), Fail> {
-    let before = [
-        spider(Colour::X, 3),
-        open(),
-        wire(0, 0, Kind::Hadamard),
-        factor(-5, 3),
-        open(),
-        Item::Zero,
-    ];
-    let after = [
-        spider(Colour::X, 3),
-        one(),
-        wire(0, 0, Kind::Hadamard),
-        factor(-5, 3),
-        zero(),
-        Item::Zero,
-    ];
-    held(&rt, &[1, 0], &before, &after)
+    let before = among_others(Open, Open);
+    let mut source = Settings::new(&[1, 0])?.over(Listed::new(&before));
+    gives(&rt, &mut source, &among_others(HeldOne, HeldZero));
+    Ok(())
 }
 
 // The sixty-fourth leg is set, and none after it.
 #[test]
 fn many_legs(rt: HostRuntime) -> Result<(), Fail> {
-    let legs = [open(); 70];
-    let mut source = settings(&[1; 64])?.over(Listed::new(&legs));
-    begins(&rt, &mut source, &[one(); 64]);
-    gives(&rt, &mut source, &[open(); 6]);
+    let legs = [leg(Open); 70];
+    let mut source = Settings::new(&[1; 64])?.over(Listed::new(&legs));
+    begins(&rt, &mut source, &[leg(HeldOne); 64]);
+    gives(&rt, &mut source, &[leg(Open); 6]);
     Ok(())
 }
