@@ -58,14 +58,7 @@ impl<'a> ShortText<'a> {
         ensures { MatchOption result (Spent self.old × Spent self.new × (left self.new ≡ left self.old)) (λ x. left self.old ≡ x ∷ [] ▸ left self.new) }
     {
         let item = self.item()?;
-        // written whole: the proof did not close with `self.given += 1`
-        *self = ShortText {
-            cursor: self.cursor,
-            qubits: self.qubits,
-            wiring: self.wiring,
-            part: self.part,
-            given: self.given + 1,
-        };
+        self.given += 1;
         Some(item)
     }
 
@@ -99,14 +92,10 @@ impl<'a> ShortText<'a> {
         let before = self.wiring;
         let mut after = before;
         after.add(gate);
-        // (written whole, as in `take`)
-        *self = ShortText {
-            cursor,
-            qubits: self.qubits,
-            wiring: after,
-            part: Part::Placed(gate, before),
-            given: 0,
-        };
+        self.cursor = cursor;
+        self.wiring = after;
+        self.part = Part::Placed(gate, before);
+        self.given = 0;
         Ok(())
     }
 
