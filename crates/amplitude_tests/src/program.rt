@@ -1,15 +1,15 @@
 // What the program prints.
-use replies::report::respond;
+use replies::report::{Report, respond};
 use std::alloc::Global;
 use std::process::Abort;
 use std::test::Fail;
 
 // The like stands in conformance, for what is accepted: a crate for these lines alone is no plainer.
 fn prints(rt: &impl Abort, heap: Global, input: &[u8], line: &str) -> Result<(), Fail> {
-    let text = match respond(input) {
-        Ok(answer) => format!(in heap; "{answer}")?,
-        Err(refusal) => format!(in heap; "{refusal}")?,
+    let report = Report {
+        found: respond(input),
     };
+    let text = format!(in heap; "{report}")?;
     assert!(rt; text.as_str() == line);
     Ok(())
 }

@@ -1,15 +1,15 @@
 // What the program prints.
-use deposits::report::examine;
+use deposits::report::{Report, examine};
 use std::alloc::Global;
 use std::process::Abort;
 use std::test::Fail;
 
 // The like stands in amplitude_tests, for answers: a crate that both could use, for these lines alone, is no plainer.
 fn prints(rt: &impl Abort, heap: Global, input: &[u8], line: &str) -> Result<(), Fail> {
-    let text = match examine(input) {
-        Ok(tally) => format!(in heap; "{tally}")?,
-        Err(refusal) => format!(in heap; "{refusal}")?,
+    let report = Report {
+        found: examine(input),
     };
+    let text = format!(in heap; "{report}")?;
     assert!(rt; text.as_str() == line);
     Ok(())
 }

@@ -48,3 +48,20 @@ impl fmt::Display for Refusal {
         }
     }
 }
+
+// What there is to say of a deposit: what its circuit has, or why it is not accepted.
+#[derive(Clone, Copy, Debug, PartialEq, Eq)]
+pub struct Report {
+    pub found: Result<Tally, Refusal>,
+}
+
+impl fmt::Display for Report {
+    ghost output = { λ report. Some (line_of report.found) };
+
+    fn fmt<W: fmt::Write>(&self, f: &mut fmt::Formatter<W>) -> fmt::Result {
+        match self.found {
+            Ok(tally) => tally.fmt(f),
+            Err(refusal) => refusal.fmt(f),
+        }
+    }
+}

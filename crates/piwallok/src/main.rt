@@ -2,7 +2,7 @@
 #![tactic(auto)]
 
 use deposits::input::INPUT_LIMIT;
-use deposits::report::examine;
+use deposits::report::{Report, examine};
 use std::io;
 use std::io::Read;
 
@@ -13,8 +13,8 @@ fn main(rt: HostRuntime) -> io::Result<()> {
     rt.stdin()
         .take(INPUT_LIMIT as u64 + 1)
         .read_to_end(&mut input)?;
-    match examine(input.as_slice()) {
-        Ok(tally) => println!(rt; "{tally}"),
-        Err(refusal) => println!(rt; "{refusal}"),
-    }
+    let report = Report {
+        found: examine(input.as_slice()),
+    };
+    println!(rt; "{report}")
 }

@@ -66,3 +66,20 @@ impl fmt::Display for Refusal {
         }
     }
 }
+
+// What there is to say to a deposit: the amplitude of its circuit at its row, or why it is not answered.
+#[derive(Clone, Copy, Debug, PartialEq, Eq)]
+pub struct Report {
+    pub found: Result<Answer, Refusal>,
+}
+
+impl fmt::Display for Report {
+    ghost output = { λ report. Some (report_line report.found) };
+
+    fn fmt<W: fmt::Write>(&self, f: &mut fmt::Formatter<W>) -> fmt::Result {
+        match self.found {
+            Ok(answer) => answer.fmt(f),
+            Err(refusal) => refusal.fmt(f),
+        }
+    }
+}
