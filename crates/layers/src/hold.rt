@@ -1,5 +1,5 @@
 // Legs held at given settings, over any source.
-ghost use Rattle.std.specs.Prelude.{◌≡◌};
+ghost use Rattle.std.specs.Prelude.{◌≡◌, ◌≤◌};
 ghost use Rattle.layers.specs.Holds.{held_leg, held_stream};
 ghost use Rattle.layers.specs.Settings.{settings_in};
 
@@ -8,12 +8,13 @@ use diagrams::items::{Item, Leg, Setting};
 use diagrams::source::Source;
 use refusals::Fault;
 
-// The source below, the settings, and the number of the next leg, which stops at the largest `usize`.
+// The source below, the settings, and the number of the next leg; once it is past the last setting it stays.
 #[derive(Drop)]
 pub struct Hold<S> {
     below: S,
     settings: Settings,
     legs: usize,
+    ghost counted: { legs ≤ settings.count },
 }
 
 // A leg that is open takes the setting, and one that is held keeps its own.
@@ -48,7 +49,9 @@ impl<S: Source> Source for Hold<S> {
         match self.below.next()? {
             Some(Item::Leg(leg)) => {
                 let setting = self.settings.at(self.legs);
-                self.legs = self.legs.saturating_add(1);
+                if self.legs < self.settings.len() {
+                    self.legs += 1;
+                }
                 Ok(Some(Item::Leg(held_leg(setting, leg))))
             }
             other => Ok(other),
