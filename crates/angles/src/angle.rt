@@ -5,7 +5,7 @@ pub mod methods;
 pub mod phase;
 pub mod turn;
 
-#[derive(Clone, Copy, Debug, PartialEq, Eq)]
+#[derive(Clone, Copy, PartialEq, Eq)]
 pub struct Angle<const LAST: u8> {
     parts: u8,
     ghost bound: { parts < LAST + 1 },

@@ -1,9 +1,11 @@
-// How refusals are said, and which bytes are settings.
+// How refusals are said, how angles and numbers show, and which bytes are settings.
+use angles::{Phase, Turn};
 use diagrams::items::Setting;
 use diagrams::items::settings::NoSetting;
 use refusals::{AskRefusal, Fault, Layer, LoadRefusal, WriteRefusal};
+use rows::slot::{Below, Slot};
 use std::alloc::Global;
-use std::fmt::Display;
+use std::fmt::{Debug, Display};
 use std::process::Abort;
 use std::test::Fail;
 
@@ -11,6 +13,23 @@ fn says<D: Display>(rt: &impl Abort, heap: Global, what: &D, line: &str) -> Resu
     let text = format!(in heap; "{}", *what)?;
     assert!(rt; text.as_str() == line);
     Ok(())
+}
+
+fn shows<D: Debug>(rt: &impl Abort, heap: Global, what: &D, text: &str) -> Result<(), Fail> {
+    let shown = format!(in heap; "{:?}", *what)?;
+    assert!(rt; shown.as_str() == text);
+    Ok(())
+}
+
+// A phase and a turn of one count, and a slot and a leg of one number, show apart.
+#[test]
+fn units(rt: HostRuntime) -> Result<(), Fail> {
+    let heap = rt.alloc();
+    shows(&rt, heap, &Phase::of(3), "Phase { quarters: 3 }")?;
+    shows(&rt, heap, &Turn::of(3), "Turn { eighths: 3 }")?;
+    shows(&rt, heap, &Slot::of(5), "Slot { number: 5 }")?;
+    let leg = Below::<64>::new(5).ok_or("no such leg")?;
+    shows(&rt, heap, &leg, "LegNumber { number: 5 }")
 }
 
 #[test]

@@ -7,7 +7,7 @@ pub mod methods;
 pub const SLOTS: usize = 320;
 
 // A number below a bound.
-#[derive(Clone, Copy, Debug, PartialEq, Eq)]
+#[derive(Clone, Copy, PartialEq, Eq)]
 pub struct Below<const N: usize> {
     number: usize,
     ghost bound: { number < N },

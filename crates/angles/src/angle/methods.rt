@@ -3,6 +3,7 @@ ghost use Rattle.std.specs.Prelude.{◌≡◌, ◌+◌, ◌-◌};
 ghost use Rattle.angles.specs.Angles.{angle, exact_angle};
 
 use super::Angle;
+use std::fmt;
 use std::ops::{Add, Neg};
 
 impl<const LAST: u8> Angle<LAST> {
@@ -51,5 +52,17 @@ impl<const LAST: u8> Neg for Angle<LAST> {
 
     fn neg(self) -> Angle<LAST> {
         Angle::round(u16::from(LAST) + 1 - u16::from(self.parts))
+    }
+}
+
+// By hand, since a derived one would say the same of a phase and of a turn.
+impl<const LAST: u8> fmt::Debug for Angle<LAST> {
+    fn fmt<W: fmt::Write>(&self, f: &mut fmt::Formatter<W>) -> fmt::Result {
+        let (name, unit) = match LAST {
+            3 => ("Phase", "quarters"),
+            7 => ("Turn", "eighths"),
+            _ => ("Angle", "parts"),
+        };
+        f.debug_struct(name).field(unit, &self.parts).finish()
     }
 }

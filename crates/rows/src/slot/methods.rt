@@ -2,6 +2,7 @@
 ghost use Rattle.std.specs.Prelude.{◌≡◌, ◌%◌, ◌<◌, ◌≤◌, MatchOption};
 
 use super::{Below, SLOTS, Slot};
+use std::fmt;
 
 impl<const N: usize> Below<N> {
     // The number, or none where it is not below the bound.
@@ -31,5 +32,17 @@ impl Slot {
         Slot {
             number: number % SLOTS,
         }
+    }
+}
+
+// By hand, since a derived one would say the same of a slot and of a leg's number, which is below 64.
+impl<const N: usize> fmt::Debug for Below<N> {
+    fn fmt<W: fmt::Write>(&self, f: &mut fmt::Formatter<W>) -> fmt::Result {
+        let name = match N {
+            SLOTS => "Slot",
+            64 => "LegNumber",
+            _ => "Below",
+        };
+        f.debug_struct(name).field("number", &self.number).finish()
     }
 }
