@@ -138,8 +138,11 @@ impl Row {
     pub fn first(&self) -> Option<Slot>
         ensures { MatchOption result (IsBare self.now) (λ s. IsLowest self.now s.number) }
     {
-        let index = self.words.iter().position(|word| *word != 0)?;
-        let word = self.words[index];
-        Slot::new(64 * index + word.trailing_zeros() as usize)
+        for (index, word) in self.words.iter().enumerate() {
+            if *word != 0 {
+                return Slot::new(64 * index + word.trailing_zeros() as usize);
+            }
+        }
+        None
     }
 }

@@ -1,7 +1,5 @@
-use Rattle.std.proofs.Common.{◌≡◌, ℕ, ◌+◌, ◌*◌, ◌^◌, ◌<◌, ◌≤◌, false, length, get_or, Some, None, Option, sym, refl, subst, arith, rules, tests, MatchOption}
+use Rattle.std.proofs.Common.{◌≡◌, ℕ, ◌+◌, ◌*◌, ◌^◌, ◌<◌, ◌≤◌, false, length, get_or, Some, None, Option, sym, refl, subst, arith, rules, MatchOption}
 use lib.Count.{count_trailing_zeros}
-use Rattle.std.proofs.lemmas.Iterator.{IsFirst-from_position, YieldsList-from_slice}
-use Rattle.std.proofs.option.Match.{if_some, if_none, tell_None}
 use Rattle.rows.specs.declared.row.Row.{Row}
 use Rattle.rows.specs.declared.slot.Below.{Below}
 use Rattle.rows.specs.Rows.{has, IsLowest}
@@ -12,20 +10,16 @@ made : (r : Row) (n : ℕ) → n < 320 → IsLowest r n → (o : Option (Below 3
 made r n low found None e = absurd (omega arith)
 made r n low found (Some s) e = subst (IsLowest r) (sym e.0) found
 
-pub returns-in_err-index : goal.returns-in_err-index
-returns-in_err-index c =
-    let ws = c.args.self.now.words in
-    let long : length ws ≡ 5 = search rules in
-    let zero = if_none _ _ c.in_err-index.was (IsFirst-from_position _ _ _ (λ w. w ≡ 0 → ⊥) (λ w. w ≡ 0) c.position.ensures.ran (YieldsList-from_slice ws c.iter.ensures.rest) (λ x q k. search (rules, tests)) (λ x q k. search (rules, tests))) in
-    tell_None _ _ c.from_residual.ensures (all_none ws (omega arith) (λ k l. zero k 0 (omega arith) (omega arith)))
+pub returns-then-word-ne0 : goal.returns-then-word-ne0
+returns-then-word-ne0 c =
+    let r = c.args.self.now in
+    let n = c.loop-index.index in
+    let small : get_or r.words n 0 < 2 ^ 64 = search rules in
+    let s : ℕ = 64 * n + count_trailing_zeros 64 (get_or r.words n 0) in
+    let found = lowest_slot r.words n small c.if-word-ne0.true c.loop-index.invariant s refl in
+    made r s (omega (arith, found.0, c.loop-index-test.true)) (found.1, found.2) c.new.result c.new.ensures
 
 pub returns : goal.returns
 returns c =
-    let r = c.args.self.now in
-    let n = c.in_ok-index.index in
-    let long : length r.words ≡ 5 = search rules in
-    let nonzero = if_some _ _ _ c.in_ok-index.was (IsFirst-from_position _ _ _ (λ w. w ≡ 0 → ⊥) (λ w. w ≡ 0) c.position.ensures.ran (YieldsList-from_slice r.words c.iter.ensures.rest) (λ x q k. search (rules, tests)) (λ x q k. search (rules, tests))) in
-    let small : get_or r.words n 0 < 2 ^ 64 = search rules in
-    let s : ℕ = 64 * n + count_trailing_zeros 64 (get_or r.words n 0) in
-    let found = lowest_slot r.words n small (nonzero.1 0) (λ k h. nonzero.2 k 0 (omega arith) h) s refl in
-    made r s (omega (arith, found.0, nonzero.0)) (found.1, found.2) c.new.result c.new.ensures
+    let few : length c.args.self.now.words ≤ 5 = search rules in
+    all_none c.args.self.now.words few (λ k l. c.loop-index.invariant k (omega arith))
